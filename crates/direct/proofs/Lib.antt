@@ -1,0 +1,5 @@
+mod Integers
+mod LineBounds
+mod RoundTrip
+mod Rounding
+mod SoundRows

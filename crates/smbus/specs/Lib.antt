@@ -1,0 +1,4 @@
+-- The definitions that the contracts cite.
+pub mod Address
+pub mod PacketErrorCode
+pub mod Refusals
