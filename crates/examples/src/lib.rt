@@ -1,0 +1,5 @@
+// Worked examples: what the defined calls answer on given input, as one table that is proved and that the calls are made for.
+mod worked;
+
+pub use worked::WorkedExamples;
+pub use worked::worked_examples;
