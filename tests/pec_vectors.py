@@ -16,7 +16,7 @@ DIVISOR = 0b1_0000_0111
 PUBLISHED = (b"123456789", "F4")
 
 # Lines that spell no bytes: an odd number of digits, a letter that is no digit, a lower-case digit, a space.
-MALFORMED = ["123", "0G", "3a", "31 32"]
+MALFORMED = ["123", "0G", "4d", "31 32"]
 
 
 def code(message):

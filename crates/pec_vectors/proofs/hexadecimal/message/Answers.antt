@@ -10,19 +10,19 @@ use Rattle.pec_vectors.specs.Hexadecimal.{Hexadecimal, spelled}
 use Rattle.pec_vectors.proofs.Spelling.{no-pair, no-single, rest-hexadecimal, spelled-more, split-two}
 use Rattle.pec_vectors.proofs.hexadecimal.message.Needs as need
 
-pub returns-in-rest-byte : need.returns-in-rest-byte
-returns-in-rest-byte c =
+pub returns-in-rest-hex-byte : need.returns-in-rest-hex-byte
+returns-in-rest-hex-byte c =
     λ h.
     let rest = c .loop-rest .rest .now in
     let two : 2 ≤ length rest = search needs in
     let left = rest-hexadecimal (vec-items (c .loop-rest .bytes)) rest (subst Hexadecimal (c .loop-rest .inv) h) in
-    no-pair _ _ _ (c .in-rest-byte .ensures tt) (subst Hexadecimal (split-two rest two) left)
+    no-pair _ _ _ (c .in-rest-hex-byte .ensures tt .spells) (subst Hexadecimal (split-two rest two) left)
 
 pub loop-rest-again : need.loop-rest-again
 loop-rest-again c =
     let rest = c .loop-rest .rest .now in
     let two : 2 ≤ length rest = search needs in
-    spelled-more (c .args .line .now) (vec-items (c .loop-rest .bytes)) rest (vec-items (c .push .last .self)) (c .in-Some .next) two (c .loop-rest .inv) (c .in-Some .ensures tt)
+    spelled-more (c .args .line .now) (vec-items (c .loop-rest .bytes)) rest (vec-items (c .push .last .self)) (c .in-Some .next) two (c .loop-rest .inv) (c .in-Some .ensures tt .spells)
     (c .in-Continue-push .ensures tt .items)
 
 pub returns-then-is-empty : need.returns-then-is-empty

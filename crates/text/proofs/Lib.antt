@@ -1,0 +1,4 @@
+mod Appending
+mod Counting
+mod Reading
+mod Splitting
