@@ -195,4 +195,5 @@ def main():
         print(text if sys.argv[1] == "stdin" else "not a request")
 
 
-main()
+if __name__ == "__main__":
+    main()

@@ -49,4 +49,5 @@ def main():
         print(line if sys.argv[1] == "stdin" else expected)
 
 
-main()
+if __name__ == "__main__":
+    main()

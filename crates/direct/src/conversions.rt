@@ -82,7 +82,7 @@ pub fn word_of(card: &Card, quantity: Quantity, value: i64) -> Result<u16, Conve
 }
 
 // What a word reads back as: the value that it stands for, and the word which that value has.
-#[derive(Clone, Copy, PartialEq, Eq, Debug)]
+#[derive(Clone, Copy, PartialEq, Eq)]
 pub struct ReadBack {
     pub value: i64,
     pub word: u16,

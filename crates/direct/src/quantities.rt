@@ -2,7 +2,7 @@
 ghost use mathlib.Core.Path.{_≡_};
 ghost use Rattle.direct.specs.Registers.{register-code, register-quantity};
 
-#[derive(Clone, Copy, PartialEq, Eq, Debug)]
+#[derive(Clone, Copy, PartialEq, Eq)]
 pub enum Quantity {
     Vin,
     Vout,
@@ -13,7 +13,7 @@ pub enum Quantity {
 }
 
 // A register that holds a warning or fault limit.
-#[derive(Clone, Copy, PartialEq, Eq, Debug)]
+#[derive(Clone, Copy, PartialEq, Eq)]
 pub enum LimitRegister {
     VoutUv,
     VinOv,

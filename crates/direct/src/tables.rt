@@ -7,7 +7,7 @@ use crate::cards::Kind;
 use crate::quantities::Quantity;
 
 // A word Y and the value X that it stands for, in the quantity's base unit, go by Y = (m X + b) × 10^R. R is never above 0.
-#[derive(Clone, Copy, PartialEq, Eq, Debug)]
+#[derive(Clone, Copy)]
 pub struct Coefficients {
     pub m: u32,
     pub b: i32,
