@@ -3,7 +3,7 @@
 use mathlib.Core.Path.{_≡_, refl, sym, ap, subst, _∙_}
 use mathlib.Core.Logic.{_⊎_, inl, inr, ⊎-elim}
 use Prim.Native.Nat.{ℕ, zero, suc, _+_, _*_, _^_, _≤_, _<_}
-use native.Mathlib.Nat.{mul-assoc, mul-comm, add-mul, suc-mul, zero-mul, mul-le-mul-right}
+use native.Mathlib.Nat.{mul-assoc, mul-comm, suc-mul, zero-mul, mul-le-mul-right}
 use native.Mathlib.Omega.{arith}
 use lib.IntN.{ℤ, pos, negsuc, negℤ, natAbs, sucℤ, predℤ, _+ℤ_, _-ℤ_, _*ℤ_, ℤ-ind, +ℤ-idr, +ℤ-one, -ℤ-one, +ℤ-sucℤ, +ℤ-predℤ, +ℤ-invr, sucℤ-*ℤ, predℤ-*ℤ, zero-*ℤ}
 use lib.Signed.{_<ℤ_, _≤ℤ_}

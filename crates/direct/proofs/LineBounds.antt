@@ -1,20 +1,19 @@
 -- A line made of a card's coefficients keeps to its bounds, since every record of the tables is sound.
 -- Assumes nothing.
-use mathlib.Core.Path.{_≡_, refl, sym, ap, subst, _∙_}
-use mathlib.Core.Bool.{Bool, true, false}
+use mathlib.Core.Path.{_≡_, ap, _∙_}
+use mathlib.Core.Bool.{true}
 use Prim.Native.Nat.{ℕ, zero, suc, _+_, _*_, _^_, _≤_, _<_}
-use native.Mathlib.Nat.{mul-assoc, mul-comm, add-mul, zero-mul}
+use native.Mathlib.Nat.{mul-assoc, mul-comm, add-mul}
 use native.Mathlib.Omega.{arith}
-use lib.Dec.{leb, lit≤}
-use lib.IntN.{ℤ, pos, negsuc, negℤ, natAbs, _*ℤ_}
-use lib.Signed.{mag}
+use lib.Dec.{lit≤}
+use lib.IntN.{ℤ, pos, natAbs, _*ℤ_}
 use mir.Syntax.{w64}
 use mir.Val.{SFits}
-use Rattle.std.proofs.shelf.Bits.{mul-le, mul-lt}
+use Rattle.std.proofs.shelf.Bits.{mul-le}
 use Rattle.std.proofs.shelf.Ways.{tells}
 use Rattle.direct.specs.Conversions.{unit, sense, scale, on, resistor-lawful, value-divisor, word-divisor}
 use Rattle.direct.specs.Lines.{LineOf}
-use Rattle.direct.specs.Sound.{Sound, least-sense, greatest-sense}
+use Rattle.direct.specs.Sound.{least-sense, greatest-sense}
 use Rattle.direct.specs.declared.cards.Card.{Card}
 use Rattle.direct.specs.declared.lines.Line.{Line}
 use Rattle.direct.specs.declared.quantities.Quantity.{Quantity}

@@ -2,21 +2,20 @@
 -- Assumes nothing.
 use mathlib.Core.Path.{_≡_, refl, sym, ap, subst, _∙_}
 use mathlib.Core.Bool.{Bool, true, false, cond, _&&_}
-use Prim.Native.Nat.{ℕ, _+_, _*_, _^_, _≤_, _<_}
+use Prim.Native.Nat.{ℕ, _*_, _^_, _≤_, _<_}
 use native.Mathlib.Nat.{mul-comm, le-refl}
 use native.Mathlib.Omega.{arith}
 use lib.IntN.{ℤ, pos, negsuc, negℤ, natAbs, _+ℤ_, _-ℤ_, _*ℤ_}
 use lib.Dec.{T}
-use lib.Signed.{_<ℤ_, _≤ℤ_, leZ, leZ-yes}
+use lib.Signed.{_≤ℤ_, leZ, leZ-yes}
 use Rattle.std.proofs.shelf.Bits.{mul-le}
 use Rattle.std.proofs.shelf.Signed.{ints, by-ltZ, ofZ-toZ}
-use Rattle.direct.specs.Conversions.{unit, sense, scale, on, least, in-range, askable, resistor-lawful, value-numerator, value-divisor, word-numerator, word-divisor, exact-value, exact-word, word-number, value-answer, word-answer}
-use Rattle.std.proofs.shelf.Ways.{tells}
+use Rattle.direct.specs.Conversions.{unit, sense, scale, on, least, in-range, askable, resistor-lawful, value-divisor, word-divisor, exact-value, exact-word, word-number, value-answer, word-answer}
 use Rattle.std.specs.declared.result.Result.{Result}
 use Rattle.std.specs.declared.result.Result.the-variants.{Ok, Err}
 use mir.Syntax.{w16}
 use mir.Val.{SFits, ofZ}
-use Rattle.direct.specs.Lines.{Bounded, LineOf}
+use Rattle.direct.specs.Lines.{LineOf}
 use Rattle.direct.specs.Nearest.{rounded}
 use Rattle.direct.specs.declared.cards.Card.{Card}
 use Rattle.direct.specs.declared.lines.Line.{Line}

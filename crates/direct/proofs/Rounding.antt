@@ -1,7 +1,7 @@
 -- What `rounded` means: it is within half a part, of which the lower end counts, and so the nearest; and it is the only such number.
 -- Assumes nothing.
-use mathlib.Core.Path.{_≡_, sym, subst}
-use mathlib.Core.Logic.{_⊎_, inl, inr, ⊎-elim}
+use mathlib.Core.Path.{_≡_, subst}
+use mathlib.Core.Logic.{⊎-elim}
 use Prim.Native.Nat.{ℕ, suc, _+_, _*_, _/_, _%_, _≤_, _<_}
 use native.Mathlib.Nat.{suc-mul, le-of-lt, le-refl}
 use native.Mathlib.Omega.{arith}

@@ -1,13 +1,11 @@
 // The two conversions, and both of them one after the other.
 ghost use mathlib.Core.Path.{_≡_};
-ghost use Prim.Native.Nat.{ℕ, _+_, _*_, _^_, _<_, _≤_};
-ghost use lib.IntN.{ℤ, pos, negsuc, natAbs};
-ghost use lib.Signed.{_<ℤ_, _≤ℤ_};
+ghost use Prim.Native.Nat.{ℕ, _^_, _<_};
 ghost use Rattle.std.specs.Results.{Cases};
 ghost use Rattle.std.specs.Vec.{made};
 ghost use Rattle.std.specs.declared.result.Result.the-variants.{Ok, Err};
 ghost use Rattle.direct.specs.Conversions.{least, in-range, askable, on, sense, word-number, value-numerator, value-divisor, word-numerator, word-divisor, value-answer, word-answer};
-ghost use Rattle.direct.specs.Nearest.{Nearest, rounded};
+ghost use Rattle.direct.specs.Nearest.{Nearest};
 use crate::cards::Card;
 use crate::lines::line_of;
 use crate::quantities::Quantity;

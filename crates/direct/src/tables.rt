@@ -1,6 +1,6 @@
 // The coefficients m, b and R of each kind, for a sense resistor of 1 mΩ: one constant table for each kind.
 ghost use mathlib.Core.Path.{_≡_};
-ghost use Rattle.direct.specs.Coefficients.{rows-of, row-of, coefficients-of};
+ghost use Rattle.direct.specs.Coefficients.{row-of, coefficients-of};
 ghost use Rattle.direct.specs.Sound.{Sound};
 use crate::cards::CurrentLimit;
 use crate::cards::Kind;

@@ -6,7 +6,6 @@ use native.Mathlib.Omega.{arith}
 use Prim.Native.Nat.{ℕ, _-_, _≤_, _<_}
 use lib.ListN.{drop, getD, length, length-append, take}
 use Rattle.std.proofs.shelf.Lists.{take-rest}
-use Rattle.std.specs.shelf.Lists.{All}
 use Rattle.text.specs.Writing.{hex-text}
 use Rattle.pec_vectors.specs.Hexadecimal.{Hexadecimal, spelled}
 

@@ -1,7 +1,7 @@
 -- What a line of the sheet is answered.
 use mathlib.Core.Path.{_≡_}
 use mathlib.Core.Bool.{Bool, cond, not, _&&_}
-use mathlib.Core.List.{List, [], _∷_, _++_}
+use mathlib.Core.List.{List, [], _∷_}
 use Prim.Native.Nat.{ℕ, _/_, _%_}
 use lib.Dec.{leb, eqb}
 use lib.IntN.{ℤ}
@@ -60,11 +60,12 @@ write-of a r w = record { address = write-byte a; command = register-code r; low
 abbrev pub bytes-of : WordWrite → List ℕ
 bytes-of m = m .address ∷ m .command ∷ m .low ∷ m .high ∷ m .code ∷ []
 
--- a limit whose word is known
+-- a limit whose word is known, and what the word stands for, if it is lawful
 abbrev pub with-value : ℕ → LimitRegister → ℤ → ℕ → Result ℤ ConversionRefusal → Answer
 with-value a r v w (Ok x) = LimitSet r v w x (write-of a r w)
 with-value a r v w (Err e) = LimitRefused r v e
 
+-- a limit whose value has a word, or the refusal of it
 abbrev pub with-word : Placed → LimitRegister → ℤ → Result ℕ ConversionRefusal → Answer
 with-word p r v (Ok w) = with-value (p .0) r v w (value-answer (p .1) (register-quantity r) w)
 with-word p r v (Err e) = LimitRefused r v e
@@ -78,10 +79,12 @@ abbrev pub set-or-refused : LimitRegister → ℤ → Result Answer ConversionRe
 set-or-refused r v (Ok a) = a
 set-or-refused r v (Err e) = LimitRefused r v e
 
+-- a card line: the card, or the refusal of its address
 abbrev pub card-answer : ℕ → Card → Result Placed AddressRefusal → Answer
 card-answer a c (Ok p) = CardSet a c
 card-answer a c (Err e) = CardRefused e
 
+-- a limit line: it asks for a card before it
 abbrev pub present-answer : Option Placed → LimitRegister → ℤ → Answer
 present-answer None r v = Misfit 0 CardBefore
 present-answer (Some p) r v = limit-answer p r v
@@ -93,6 +96,7 @@ answer-of (line.Card a c) p = card-answer a c (place a c)
 answer-of (line.Limit r v) p = present-answer p r v
 answer-of (line.Misfit n e) p = Misfit n e
 
+-- the card, or none where its address is refused
 abbrev pub card-or-none : Result Placed AddressRefusal → Option Placed
 card-or-none (Ok p) = Some p
 card-or-none (Err e) = None

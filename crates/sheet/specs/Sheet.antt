@@ -58,6 +58,7 @@ is-misfit (LimitSet r v w x m) = false
 is-misfit (LimitRefused r v e) = false
 is-misfit (Misfit p e) = true
 
+-- 1 where a test holds
 abbrev pub one-if : Bool → ℕ
 one-if b = cond b 1 0
 

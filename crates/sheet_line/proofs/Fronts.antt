@@ -1,20 +1,19 @@
 -- What the pieces of a line read.
-use mathlib.Core.Path.{_≡_, refl, sym, ap, subst, _∙_}
-use mathlib.Core.Bool.{Bool, true, false, cond}
-use mathlib.Core.List.{List, [], _∷_, map}
-use Prim.Native.Nat.{ℕ, zero, suc, _+_, _*_, _-_, _^_, _≤_, _<_, min, max}
-use native.Mathlib.Nat.{pow-le-pow-right}
+use mathlib.Core.Path.{_≡_, sym, ap, subst, _∙_}
+use mathlib.Core.Bool.{true, false, cond}
+use mathlib.Core.List.{List, [], _∷_}
+use Prim.Native.Nat.{ℕ, _-_, _^_, _≤_, _<_, min}
 use native.Mathlib.Omega.{arith}
 use lib.Dec.{eqb, ltb}
 use lib.ListN.{length, getD, take, drop}
 use Rattle.std.specs.declared.option.Option.{Option}
-use Rattle.std.specs.declared.option.Option.the-variants.{Some, None}
+use Rattle.std.specs.declared.option.Option.the-variants.{Some}
 use Rattle.std.specs.declared.result.Result.{Result}
-use Rattle.std.specs.declared.result.Result.the-variants.{Ok, Err}
+use Rattle.std.specs.declared.result.Result.the-variants.{Ok}
 use Rattle.std.proofs.shelf.Lists.{take-rest, take-all}
 use Rattle.std.proofs.shelf.Tests.{eq-eqb, ne-eqb, le-ltb}
 use Rattle.text.specs.Digits.{hex-digit, digits-at-front, number-of, Leads}
-use Rattle.sheet_line.specs.Numbers.{number-to-end, all-digits, point-or-end, whole-part, magnitude-to-end}
+use Rattle.sheet_line.specs.Numbers.{number-to-end, point-or-end, whole-part, magnitude-to-end}
 use Rattle.sheet_line.specs.Pieces.{Given, stop, after-byte, hex-at, digit-or-stop}
 use Rattle.sheet_line.specs.declared.expected.Expected.{Expected}
 use Rattle.sheet_line.specs.declared.pieces.Stop.{Stop}

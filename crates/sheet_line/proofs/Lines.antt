@@ -3,7 +3,7 @@
 use mathlib.Core.Path.{_≡_, refl, sym, ap, subst, _∙_}
 use mathlib.Core.Bool.{Bool, true, false, cond}
 use mathlib.Core.List.{List, [], _∷_, _++_}
-use mathlib.Core.Logic.{_⊎_, inl, inr, ⊎-elim}
+use mathlib.Core.Logic.{inl, inr}
 use Prim.Native.Nat.{ℕ, _+_, _-_, _≤_}
 use native.Mathlib.Omega.{arith}
 use lib.Dec.{T, eqb}
@@ -17,7 +17,7 @@ use Rattle.std.specs.declared.result.Result.the-variants.{Ok, Err}
 use Rattle.std.proofs.shelf.Tests.{eq-eqb}
 use Rattle.std.proofs.shelf.Ways.{tells}
 use Rattle.sheet_line.specs.Fitting.{After, Word, Address, Digits, Value, Settings, Tail, Formed, Note, Fits, Same-next, First-misfit, Placed}
-use Rattle.sheet_line.specs.Forms.{decimals, settings, card-form, limit-form, after-keyword, form, line-or-misfit, line-of}
+use Rattle.sheet_line.specs.Forms.{decimals, settings, after-keyword, form, line-or-misfit, line-of}
 use Rattle.sheet_line.specs.Names.{keywords, blank, kinds, current-limits, registers}
 use Rattle.sheet_line.specs.Numbers.{each, number-to-end, value-to-end}
 use Rattle.sheet_line.specs.Pieces.{Given, then, one-of, address-at}
@@ -29,7 +29,7 @@ use Rattle.sheet_line.specs.declared.names.Keyword.{Keyword}
 use Rattle.sheet_line.specs.declared.names.Keyword.the-variants as keyword
 use Rattle.sheet_line.specs.declared.pieces.Stop.{Stop}
 use Rattle.sheet_line.proofs.NumberPieces.{address-piece, number-ending, value-ending, zero-address}
-use Rattle.sheet_line.proofs.Sequences.{Piece, Ending, Stops, each-ending, after-ending}
+use Rattle.sheet_line.proofs.Sequences.{Ending, Stops, each-ending, after-ending}
 use Rattle.sheet_line.proofs.WordPieces.{good-words, words-piece, words-some, drop-front}
 
 -- one of some words and then an end of the line

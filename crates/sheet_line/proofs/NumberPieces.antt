@@ -1,10 +1,10 @@
 -- The address and the numbers as pieces of a line.
 -- Assumes nothing.
 use mathlib.Core.Path.{_≡_, refl, sym, ap, subst, _∙_}
-use mathlib.Core.Bool.{Bool, true, false, cond, _&&_}
+use mathlib.Core.Bool.{Bool, true, false, cond}
 use mathlib.Core.List.{List, [], _∷_, _++_, append-nil, append-assoc}
 use mathlib.Core.Logic.{_⊎_, inl, inr, ⊎-elim}
-use Prim.Native.Nat.{ℕ, zero, suc, _+_, _*_, _-_, _^_, _≤_, _<_, min}
+use Prim.Native.Nat.{ℕ, zero, suc, _+_, _*_, _-_, _^_, _≤_, _<_}
 use native.Mathlib.Omega.{arith}
 use lib.Dec.{eqb, ltb}
 use lib.IntN.{ℤ, pos, negℤ}
@@ -15,11 +15,11 @@ use Rattle.std.specs.declared.option.Option.the-variants.{Some, None}
 use Rattle.std.specs.declared.result.Result.{Result}
 use Rattle.std.specs.declared.result.Result.the-variants.{Ok, Err}
 use Rattle.std.proofs.shelf.Lists.{nil-from-length}
-use Rattle.std.proofs.shelf.Tests.{eq-eqb, ne-eqb, cases-lt, cases-eq}
-use Rattle.std.proofs.shelf.Ways.{tells, eqb-tells, leb-tells}
+use Rattle.std.proofs.shelf.Tests.{eq-eqb, ne-eqb}
+use Rattle.std.proofs.shelf.Ways.{tells}
 use Rattle.text.specs.Digits.{is-digit, hex-digit, digits-at-front, number-of}
 use Rattle.sheet_line.specs.Fitting.{Address, Every-digit, Digits, Magnitude, Value, Same-next}
-use Rattle.sheet_line.specs.Numbers.{each, all-digits, number-to-end, fraction-to-end, after-point, point-or-end, whole-part, magnitude-to-end, with-sign, value-to-end, after-digits, after-whole}
+use Rattle.sheet_line.specs.Numbers.{number-to-end, fraction-to-end, after-point, point-or-end, magnitude-to-end, with-sign, value-to-end, after-digits, after-whole}
 use Rattle.sheet_line.specs.Pieces.{Given, then, stop, after-byte, hex-at, digit-or-stop, address-at}
 use Rattle.sheet_line.specs.declared.expected.Expected.{Expected}
 use Rattle.sheet_line.specs.declared.expected.Expected.the-variants.{HexDigit, Digit, DigitOrMinus}

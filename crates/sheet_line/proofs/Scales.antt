@@ -1,5 +1,5 @@
 -- How large a number of so many digits is.
-use mathlib.Core.Path.{_≡_, sym, ap, subst}
+use mathlib.Core.Path.{_≡_, ap}
 use Prim.Native.Nat.{ℕ, _+_, _*_, _-_, _^_, _≤_, _<_}
 use native.Mathlib.Nat.{pow-le-pow-right, one-le-pow, mul-le-mul, mul-le-mul-right, add-mul}
 use native.Mathlib.Omega.{arith}

@@ -3,20 +3,19 @@
 use mathlib.Core.Path.{_≡_, refl, sym, ap, subst, _∙_}
 use mathlib.Core.Bool.{Bool, true, false, cond, _&&_}
 use mathlib.Core.List.{List, [], _∷_, _++_, append-nil, append-assoc}
-use mathlib.Core.Logic.{_⊎_, inl, inr, ⊎-elim}
-use Prim.Native.Nat.{ℕ, zero, suc, _+_, _*_, _-_, _≤_, _<_, max}
+use mathlib.Core.Logic.{inl, inr, ⊎-elim}
+use Prim.Native.Nat.{ℕ, _+_, _-_, _≤_, _<_}
 use native.Mathlib.Omega.{arith}
-use lib.Dec.{T, eqb, ltb, leb, eqb→eq, ltb→lt}
-use lib.ListN.{length, take, drop, length-append}
+use lib.Dec.{T, eqb, ltb, eqb→eq, ltb→lt}
+use lib.ListN.{length, drop, length-append}
 use Rattle.std.specs.shelf.Lists.{common}
 use Rattle.std.specs.declared.option.Option.{Option}
 use Rattle.std.specs.declared.option.Option.the-variants.{Some, None}
 use Rattle.std.specs.declared.result.Result.the-variants.{Ok, Err}
 use Rattle.std.proofs.shelf.Lists.{nil-from-length}
 use Rattle.std.proofs.shelf.Tests.{eq-eqb, ne-eqb, cases-lt}
-use Rattle.std.proofs.shelf.Ways.{tells, eqb-tells}
 use Rattle.sheet_line.specs.Fitting.{Word, Same-next}
-use Rattle.sheet_line.specs.Pieces.{Given, stop, stands, found, nearest, found-or-stop, one-of}
+use Rattle.sheet_line.specs.Pieces.{stands, found, nearest, found-or-stop, one-of}
 use Rattle.sheet_line.specs.declared.expected.Expected.{Expected}
 use Rattle.sheet_line.specs.declared.pieces.Stop.{Stop}
 use Rattle.sheet_line.proofs.Sequences.{Piece, Piece-stops}

@@ -1,7 +1,7 @@
 -- A search through some words, one word on.
 use mathlib.Core.Path.{_≡_, sym, ap, _∙_}
 use mathlib.Core.Bool.{true, false, cond}
-use mathlib.Core.List.{List, [], _∷_, map}
+use mathlib.Core.List.{List, _∷_, map}
 use Prim.Native.Nat.{ℕ, _+_, _-_, _≤_, _<_, max}
 use native.Mathlib.Omega.{arith}
 use lib.Dec.{eqb}
@@ -9,10 +9,10 @@ use lib.ListN.{length, getD, take, drop}
 use Rattle.std.specs.shelf.Lists.{common}
 use Rattle.std.specs.declared.option.Option.{Option}
 use Rattle.std.specs.declared.option.Option.the-variants.{Some, None}
-use Rattle.std.specs.declared.result.Result.the-variants.{Ok, Err}
+use Rattle.std.specs.declared.result.Result.the-variants.{Ok}
 use Rattle.std.proofs.shelf.Lists.{take-rest, at-drop-more, at-drop-all}
 use Rattle.std.proofs.shelf.Tests.{eq-eqb, ne-eqb}
-use Rattle.sheet_line.specs.Pieces.{Given, named, stands, found, nearest, found-or-stop, one-of, stop}
+use Rattle.sheet_line.specs.Pieces.{Given, named, stands, found, nearest, one-of, stop}
 use Rattle.sheet_line.specs.declared.expected.Expected.{Expected}
 use Rattle.sheet_line.specs.declared.pieces.Named.{Named}
 

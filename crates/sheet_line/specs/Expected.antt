@@ -5,6 +5,7 @@ use lib.Chars.{codes}
 use Rattle.sheet_line.specs.declared.expected.Expected as e
 use Rattle.sheet_line.specs.declared.expected.Expected.the-variants.{Form, CardBefore, Blank, HexDigit, Kind, CurrentLimit, LimitName, Digit, DigitOrMinus, DigitPointOrEnd, PointOrEnd, DigitOrEnd, End}
 
+-- what was expected, in words
 abbrev pub expected-text : e.Expected → List ℕ
 expected-text Form = codes "a card line, a limit line, # or an empty line"
 expected-text CardBefore = codes "a card line before this limit"

@@ -1,8 +1,6 @@
 // A line of the sheet, taken apart.
 ghost use mathlib.Core.Path.{_≡_};
 ghost use Prim.Native.Nat.{_≤_};
-ghost use lib.ListN.{length};
-ghost use Rattle.std.specs.Results.{isOk};
 ghost use Rattle.sheet_line.specs.Fitting.{Placed};
 ghost use Rattle.sheet_line.specs.Forms.{decimals, settings, card-form, limit-form, form, line-of};
 use crate::expected::Expected;

@@ -1,7 +1,7 @@
 -- The packet error code: the remainder of a message, as a polynomial over two elements, divided by x^8 + x^2 + x + 1.
 -- Assumes nothing.
 use mathlib.Core.Bool.{cond}
-use mathlib.Core.List.{List, [], _∷_, _++_, map}
+use mathlib.Core.List.{List, _∷_, _++_, map}
 use mathlib.Core.Path.{_≡_}
 use Prim.Native.Nat.{ℕ, zero, suc, _-_, _*_, _<_}
 use lib.Bits.{bitXor}

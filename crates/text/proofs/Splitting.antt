@@ -1,14 +1,14 @@
 -- A text and its first line.
 use mathlib.Core.Path.{_≡_, refl, sym, ap, _∙_}
 use mathlib.Core.Bool.{Bool, true, false, cond, not}
-use mathlib.Core.List.{List, [], _∷_, _++_}
-use Prim.Native.Nat.{ℕ, zero, suc, _+_, _<_, _≤_}
+use mathlib.Core.List.{List, [], _∷_}
+use Prim.Native.Nat.{ℕ, suc, _+_, _<_, _≤_}
 use native.Mathlib.Numerals.{one-add, add-one}
 use native.Mathlib.Omega.{arith}
 use lib.Dec.{eqb}
 use lib.ListN.{length, take, drop}
 use Rattle.std.proofs.shelf.Lists.{drop-all}
-use Rattle.text.specs.Lines.{in-line, line-length, lines-of, onto-first}
+use Rattle.text.specs.Lines.{line-length, lines-of, onto-first}
 
 -- a byte in front of a first line of n bytes
 longer : (b n : ℕ) (bs : List ℕ) → (b ∷ take n bs) ∷ lines-of (drop (n + 1) bs) ≡ take (1 + n) (b ∷ bs) ∷ lines-of (drop (1 + n + 1) (b ∷ bs))

@@ -1,5 +1,5 @@
 use mathlib.Core.Path.{_≡_, sym, ap, subst, _∙_}
-use mathlib.Core.Bool.{Bool, true, _&&_}
+use mathlib.Core.Bool.{true}
 use Prim.Native.Nat.{ℕ, _<_}
 use native.Mathlib.Omega.{arith}
 use lib.IntN.{ℤ, pos, _+ℤ_, _*ℤ_}
@@ -7,7 +7,7 @@ use mir.Syntax.{w16, w64}
 use mir.Val.{toZ, ofZ}
 use Rattle.std.proofs.shelf.Signed.{toZ-ofZ}
 use Rattle.std.specs.declared.result.Result.the-variants.{Ok}
-use Rattle.direct.specs.Conversions.{askable, in-range, word-number, on, sense, word-numerator, word-divisor, exact-word}
+use Rattle.direct.specs.Conversions.{askable, in-range, on, sense, word-numerator, word-divisor, exact-word}
 use Rattle.direct.specs.Nearest.{Nearest, rounded}
 use Rattle.direct.proofs.RoundTrip.{line-number, word-found, in-range-small, and-true}
 use Rattle.direct.proofs.Rounding.{rounded-nearest}

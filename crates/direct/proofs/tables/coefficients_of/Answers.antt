@@ -1,4 +1,3 @@
-use mathlib.Core.Path.{_≡_}
 use Rattle.direct.specs.Coefficients.{rows-of}
 use Rattle.direct.specs.declared.cards.Kind.the-variants.{Lm25066, Lm5064, Lm5056}
 use Rattle.direct.proofs.SoundRows.{record-read}

@@ -1,4 +1,3 @@
-use Rattle.std.proofs.shelf.Results.{made-weaker}
 use Rattle.sheet.specs.Sheet.{last-line}
 use Rattle.sheet.proofs.sheet.print_tally.Needs as need
 

@@ -1,5 +1,5 @@
-use mathlib.Core.Path.{_≡_, sym, ap, subst, _∙_}
-use Prim.Native.Nat.{ℕ, _*_, _-_, _^_, _<_, _≤_}
+use mathlib.Core.Path.{_≡_, ap, subst, _∙_}
+use Prim.Native.Nat.{_*_, _-_, _^_, _≤_}
 use lib.ListN.{length}
 use Rattle.std.specs.declared.result.Result.the-variants.{Ok}
 use Rattle.sheet_line.specs.Numbers.{each, number-to-end}

@@ -1,16 +1,13 @@
-use mathlib.Core.Path.{_≡_, sym, ap, subst, _∙_}
+use mathlib.Core.Path.{_≡_, sym, ap, _∙_}
 use mathlib.Core.Bool.{true, false}
-use Prim.Native.Nat.{ℕ, _+_, _*_, _-_, _^_, _<_, _≤_}
+use Prim.Native.Nat.{ℕ, _+_, _*_, _^_, _<_, _≤_}
 use native.Mathlib.Omega.{arith}
 use lib.Dec.{eqb}
 use lib.ListN.{length}
-use Rattle.std.specs.declared.option.Option.{Option}
 use Rattle.std.specs.declared.option.Option.the-variants.{Some}
-use Rattle.std.specs.declared.result.Result.{Result}
 use Rattle.std.specs.declared.result.Result.the-variants.{Ok}
-use Rattle.sheet_line.specs.Numbers.{each, fraction-to-end, after-point, point-or-end}
+use Rattle.sheet_line.specs.Numbers.{fraction-to-end}
 use Rattle.sheet_line.specs.Pieces.{after-byte}
-use Rattle.sheet_line.specs.declared.pieces.Stop.{Stop}
 use Rattle.sheet_line.proofs.Scales.{power-small, value-small}
 use Rattle.sheet_line.proofs.numbers.point_or_end.Needs as need
 

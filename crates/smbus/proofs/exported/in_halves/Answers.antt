@@ -1,5 +1,5 @@
 -- The code of the second half goes on from that of the first, and the laws of codes say the rest.
-use mathlib.Core.Path.{_≡_, _∙_, ap, sym}
+use mathlib.Core.Path.{_∙_, ap, sym}
 use Rattle.smbus.specs.PacketErrorCode.{code-from}
 use Rattle.smbus.proofs.Codes.{code-caught, code-joined, code-zero}
 use Rattle.smbus.proofs.exported.in_halves.Needs as need

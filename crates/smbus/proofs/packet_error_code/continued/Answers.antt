@@ -1,6 +1,5 @@
 -- One byte more, and all of them; the laws of codes say the rest.
 use mathlib.Core.Path.{_≡_, _∙_, sym}
-use lib.ListN.{length}
 use native.Mathlib.Omega.{arith}
 use Rattle.smbus.specs.PacketErrorCode.{code-from}
 use Rattle.smbus.proofs.Codes.{code-caught, code-joined, code-zero}

@@ -1,5 +1,5 @@
 use mathlib.Core.Path.{_≡_}
-use Prim.Native.Nat.{_+_, _-_, _≤_, _<_, _^_, min}
+use Prim.Native.Nat.{_+_, _-_, _≤_, _<_, _^_}
 use lib.ListN.{length, drop, take}
 use Rattle.std.specs.shelf.Lists.{leading}
 use Rattle.text.specs.Digits.{is-digit, number-of}

@@ -1,9 +1,9 @@
-use mathlib.Core.Path.{_≡_, refl, sym, ap, subst, _∙_}
+use mathlib.Core.Path.{_≡_, ap, _∙_}
 use mathlib.Core.List.{[], _∷_, _++_}
-use Prim.Native.Nat.{ℕ, suc, _+_, _-_, _/_, _%_, _<_, _^_}
+use Prim.Native.Nat.{ℕ, suc, _+_, _-_, _/_, _%_}
 use native.Mathlib.Omega.{arith}
 use Rattle.std.specs.Written.{decimal}
-use Rattle.text.specs.Writing.{Appends, fixed}
+use Rattle.text.specs.Writing.{fixed}
 use Rattle.text.proofs.Appending.{appends-then, appends-stops, fixed-more, fixed-none}
 use Rattle.text.proofs.writing.+push_scaled.Needs as need
 

@@ -4,7 +4,7 @@ use Prim.Native.Nat.{ℕ, zero, suc, _+_, _-_, _*_, _/_, _%_, _^_, _<_, _≤_}
 use native.Mathlib.Nat.{pow-succ'}
 use native.Mathlib.Numerals.{add-one}
 use native.Mathlib.Omega.{arith}
-use lib.ListN.{length, set, drop, take, length-set}
+use lib.ListN.{set, drop, take, length-set}
 use Rattle.std.proofs.shelf.Lists.{drop-set, take-rest}
 use Rattle.text.proofs.Appending.{front-digits, digits-last, digits-more, no-front}
 use Rattle.text.proofs.Reading.{decimal-reads}

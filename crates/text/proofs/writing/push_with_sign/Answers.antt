@@ -1,7 +1,7 @@
-use mathlib.Core.Path.{_≡_, sym, ap, subst, _∙_}
-use mathlib.Core.List.{[], _∷_, _++_}
+use mathlib.Core.Path.{ap, subst, _∙_}
+use mathlib.Core.List.{[], _∷_}
 use Rattle.std.specs.Of.Vec.{vec-items}
-use Rattle.text.specs.Writing.{Appends, minus, fixed}
+use Rattle.text.specs.Writing.{Appends, fixed}
 use Rattle.text.proofs.Appending.{appends-then, appends-stops}
 use Rattle.text.proofs.writing.push_with_sign.Needs as need
 use Rattle.text.proofs.writing.push_with_sign.Needs.{then-below-zero·in-Continue-push-text, else-below-zero}

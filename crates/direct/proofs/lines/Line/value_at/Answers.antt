@@ -1,13 +1,11 @@
-use mathlib.Core.Path.{_≡_, sym, ap, subst, _∙_}
-use Prim.Native.Nat.{ℕ, _*_, _^_, _<_}
+use mathlib.Core.Path.{sym, subst, _∙_}
+use Prim.Native.Nat.{_*_, _^_, _<_}
 use native.Mathlib.Omega.{arith}
-use lib.IntN.{ℤ, pos, natAbs, negℤ, _+ℤ_, _-ℤ_, _*ℤ_}
+use lib.IntN.{ℤ, natAbs}
 use mir.Syntax.{w64}
-use mir.Val.{toZ, ofZ}
 use Rattle.std.proofs.shelf.Bits.{mul-le}
-use Rattle.std.proofs.shelf.Signed.{ints, toZ-ofZ}
-use Rattle.direct.specs.Nearest.{rounded}
-use Rattle.direct.proofs.Integers.{fits-from-abs, abs-neg, negative-read}
+use Rattle.std.proofs.shelf.Signed.{toZ-ofZ}
+use Rattle.direct.proofs.Integers.{abs-neg, negative-read}
 use Rattle.direct.proofs.lines.Line.value_at.Needs as need
 
 pub rounded-ratio-requires : need.rounded-ratio-requires
