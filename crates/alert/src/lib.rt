@@ -1,4 +1,6 @@
 // What a station has to do with the alert line: its conditions, its black box, and the entry that shows both.
+#![tactic(auto)]
+
 mod alerts;
 mod boxes;
 mod conditions;

@@ -1,4 +1,6 @@
 // Makes the conversion that each line of standard input asks for, and prints its answer.
+#![tactic(auto)]
+
 mod requests;
 
 use std::io;

@@ -1,5 +1,7 @@
 // DIRECT conversions of the feed monitors LM25066, LM5064 and LM5056: what a register's word means, and which word a value has.
 // Nothing here allocates.
+#![tactic(auto)]
+
 mod cards;
 mod conversions;
 mod lines;

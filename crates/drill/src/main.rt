@@ -1,4 +1,6 @@
 // A drill on the alert line: the same calls on three stations, joined in both ways, and then a join with a clash.
+#![tactic(auto)]
+
 mod answering;
 mod asking;
 mod bytes;

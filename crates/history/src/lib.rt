@@ -1,4 +1,6 @@
 // Calls to a segment, their history, and the law that every history keeps.
+#![tactic(auto)]
+
 mod calls;
 mod example;
 mod making;

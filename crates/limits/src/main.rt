@@ -1,4 +1,6 @@
 // Turns a limit sheet into the words and the bytes to send.
+#![tactic(auto)]
+
 ghost use Rattle.std.specs.Prelude.{◌≤◌, length, IfOk};
 
 use anyhow::anyhow;

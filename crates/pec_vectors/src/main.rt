@@ -1,4 +1,6 @@
 // Prints the packet error code of each line of standard input, a message in upper-case hexadecimal.
+#![tactic(auto)]
+
 mod hexadecimal;
 
 use std::io;

@@ -1,4 +1,6 @@
 // A station for practice: it serves what every station owes, and takes any sample.
+#![tactic(auto)]
+
 mod samples;
 mod stations;
 mod transfers;

@@ -1,4 +1,6 @@
 // A transfer to a station: what the host wrote, taken apart; which counts fit a form; the check of a written code; a reply with its code.
+#![tactic(auto)]
+
 mod forms;
 mod judging;
 mod refusals;

@@ -1,4 +1,6 @@
 // Stations of any make on one alert line: what every station shows, and how stations are joined.
+#![tactic(auto)]
+
 mod arbitration;
 mod faults;
 mod samples;

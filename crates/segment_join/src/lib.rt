@@ -1,4 +1,6 @@
 // Any two segments as one, proved from their meaning alone.
+#![tactic(auto)]
+
 mod joins;
 
 pub use joins::Join;

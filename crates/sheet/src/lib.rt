@@ -1,4 +1,6 @@
 // The limit sheet: what each of its lines is answered, and what is printed of the whole.
+#![tactic(auto)]
+
 mod answers;
 mod parts;
 mod printing;

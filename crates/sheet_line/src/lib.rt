@@ -1,4 +1,6 @@
 // A line of the limit sheet, taken apart: a note, a card, a limit, or the place where it has none of these forms.
+#![tactic(auto)]
+
 mod expected;
 mod line;
 mod names;

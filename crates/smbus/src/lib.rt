@@ -1,4 +1,6 @@
 // What the bus asks of every message: a lawful address, and the packet error code that ends a message.
+#![tactic(auto)]
+
 mod address;
 mod exported;
 mod packet_error_code;

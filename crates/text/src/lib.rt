@@ -1,4 +1,6 @@
 // Text as bytes: its lines, the digits in it, and text written into a Vec.
+#![tactic(auto)]
+
 mod digits;
 mod lines;
 mod words;
