@@ -6,24 +6,24 @@ use Rattle.direct.proofs.RoundTrip.{line_number, word_found, in_range_small, and
 use Rattle.direct.proofs.Rounding.{rounded_nearest}
 use Rattle.direct.proofs.conversions.found_word.Goals as goal
 
-pub overflow-cast-number : goal.overflow-cast-number
-overflow-cast-number c = (in_range_small c.args.quantity (to_z w64 (of_z w64 c.number-at-number.result)) (sym c.if-not-number-in-range.ensures)).1
+pub overflow_cast-number : goal.overflow_cast-number
+overflow_cast-number c = (in_range_small c.args.quantity (to_z w64 (of_z w64 c.number_at-number.result)) (sym c.if-not-number_in_range.ensures)).1
 
 pub returns : goal.returns
 returns c =
     let card = c.args.card.now in
     let q = c.args.quantity in
-    let line = c.in-ok-line.line in
-    let lawful = c.in-ok-line.ensures.0 in
-    let is = c.in-ok-line.ensures.1 in
-    let n : ℤ = to_z w64 (of_z w64 c.number-at-number.result) in
+    let line = c.in_ok-line.line in
+    let lawful = c.in_ok-line.ensures.0 in
+    let is = c.in_ok-line.ensures.1 in
+    let n : ℤ = to_z w64 (of_z w64 c.number_at-number.result) in
     let number : n ≡ exact_word card q c.args.value =
-    to_z-of_z w64 c.number-at-number.result (record { sfits = c.number-at-number.type-inv }) ∙ c.number-at-number.ensures ∙
+    to_z-of_z w64 c.number_at-number.result (record { sfits = c.number_at-number.type_inv }) ∙ c.number_at-number.ensures ∙
     ap (λ (x : ℤ). rounded ((x *ℤ pos line.slope) +ℤ line.offset) line.step) (to_z-of_z w64 c.args.value c.ranges.value) ∙ line_number card q line is c.args.value in
-    let range : in_range q n ≡ true = sym c.if-not-number-in-range.ensures in
-    let asked : askable c.args.value ≡ true = sym (c.if-not-value-in-range.ensures ∙ ap askable (to_z-of_z w64 c.args.value c.ranges.value)) in
+    let range : in_range q n ≡ true = sym c.if-not-number_in_range.ensures in
+    let asked : askable c.args.value ≡ true = sym (c.if-not-value_in_range.ensures ∙ ap askable (to_z-of_z w64 c.args.value c.ranges.value)) in
     let through : to_z w16 (of_z w16 n) ≡ n = to_z-of_z w16 n (in_range_small q n range).1 in
-    let word : c.cast-unsigned.result ≡ of_z w16 n = c.cast-unsigned.ensures ∙ ap (of_z w16) through in
+    let word : c.cast_unsigned.result ≡ of_z w16 n = c.cast_unsigned.ensures ∙ ap (of_z w16) through in
     record {
       answer = ap (λ (w : ℕ). Ok w) (word ∙ ap (of_z w16) number) ∙ sym (word_found card q c.args.value true lawful (and_true _ _ asked (ap (in_range q) (sym number) ∙ range)));
       nearest =

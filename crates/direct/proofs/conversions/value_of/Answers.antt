@@ -10,15 +10,15 @@ pub returns : goal.returns
 returns c =
     let card = c.args.card.now in
     let q = c.args.quantity in
-    let line = c.in-ok-line.line in
-    let lawful = c.in-ok-line.ensures.0 in
-    let is = c.in-ok-line.ensures.1 in
+    let line = c.in_ok-line.line in
+    let lawful = c.in_ok-line.ensures.0 in
+    let is = c.in_ok-line.ensures.1 in
     let number : to_z w64 (of_z w64 c.from-number.result) ≡ word_number c.args.word =
-    to_z-of_z w64 c.from-number.result (record { sfits = c.from-number.type-inv }) ∙ c.from-number.ensures ∙
-    to_z-of_z w16 c.cast-signed.result (record { sfits = c.cast-signed.type-inv }) ∙ c.cast-signed.ensures in
-    let range : in_range q (word_number c.args.word) ≡ true = sym (c.if-not-number-in-range.ensures ∙ ap (in_range q) number) in
-    let value : to_z w64 (of_z w64 c.value-at.result) ≡ exact_value card q (word_number c.args.word) =
-    to_z-of_z w64 c.value-at.result (record { sfits = c.value-at.type-inv }) ∙ c.value-at.ensures ∙
+    to_z-of_z w64 c.from-number.result (record { sfits = c.from-number.type_inv }) ∙ c.from-number.ensures ∙
+    to_z-of_z w16 c.cast_signed.result (record { sfits = c.cast_signed.type_inv }) ∙ c.cast_signed.ensures in
+    let range : in_range q (word_number c.args.word) ≡ true = sym (c.if-not-number_in_range.ensures ∙ ap (in_range q) number) in
+    let value : to_z w64 (of_z w64 c.value_at.result) ≡ exact_value card q (word_number c.args.word) =
+    to_z-of_z w64 c.value_at.result (record { sfits = c.value_at.type_inv }) ∙ c.value_at.ensures ∙
     ap (λ (y : ℤ). rounded ((y *ℤ pos line.step) -ℤ line.offset) line.slope) number ∙ line_value card q line is (word_number c.args.word) in
     record {
       answer = ap (λ (x : ℤ). Ok x) value ∙ sym (value_found card q c.args.word range lawful);

@@ -8,7 +8,7 @@ returns c =
     let address = c.args.address.byte in
     let request = c.args.request in
     let wanted = c.args.wanted in
-    let value = c.judge-form.ensures in
+    let value = c.judge_form.ensures in
     let why = reason form address request wanted _ value in
     record {
       value = value;

@@ -15,4 +15,4 @@ set_last body buffer last e = rw (one_left buffer (length body) e) (set_at body 
 pub returns : goal.returns
 returns c =
     let body = c.args.body.now in
-    rw (c.copy-from-slice.ensures.after, sub-zero (length body)) (set_last body c.args.reply.now c.args.last c.requires)
+    rw (c.copy_from_slice.ensures.after, sub-zero (length body)) (set_last body c.args.reply.now c.args.last c.requires)

@@ -4,5 +4,5 @@ use Rattle.smbus.proofs.packet_error_code.ends_in_code.Goals as goal
 
 pub returns : goal.returns
 returns c =
-    let test = c.last-is-code.ensures in
+    let test = c.last_is_code.ensures in
     record { test = test; caught = λ changed d t. ends_caught c.args.packet.now changed d (test.0 t) }

@@ -9,8 +9,8 @@ use Rattle.smbus.proofs.table.looked_up.Goals as goal
 below : (a b : ℕ) → a < 2 ^ 8 → b < 2 ^ 8 → bit_xor a b < 256
 below a b h k = xor_lt 8 a b h k
 
-pub overflow-cast-result : goal.overflow-cast-result
-overflow-cast-result c = record { fits = omega (arith, below c.args.running c.args.byte (omega arith) (omega arith)) }
+pub overflow_cast-result : goal.overflow_cast-result
+overflow_cast-result c = record { fits = omega (arith, below c.args.running c.args.byte (omega arith) (omega arith)) }
 
 pub bounds-table-running : goal.bounds-table-running
 bounds-table-running c = below c.args.running c.args.byte (omega arith) (omega arith)

@@ -4,12 +4,12 @@ use Rattle.text.specs.Digits.{is_digit, decimal_digit}
 use Rattle.text.proofs.Counting.{digit_some, room, count_more, number_more, bound_more, count_stops}
 use Rattle.text.proofs.digits.digits_up_to.Goals as goal
 
-pub overflow-mul-value : goal.overflow-mul-value
-overflow-mul-value c = omega (arith, room c.loop-length.value c.loop-length.length 0 c.loop-length.invariant.4 (omega arith) (omega arith))
+pub overflow_mul-value : goal.overflow_mul-value
+overflow_mul-value c = omega (arith, room c.loop-length.value c.loop-length.length 0 c.loop-length.invariant.4 (omega arith) (omega arith))
 
-pub overflow-add-value : goal.overflow-add-value
-overflow-add-value c =
-    let here : decimal_digit (get_or c.args.text.now c.loop-length.length 0) ≡ Some c.in-Some.digit = sym c.decimal-digit.ensures ∙ c.in-Some.is in
+pub overflow_add-value : goal.overflow_add-value
+overflow_add-value c =
+    let here : decimal_digit (get_or c.args.text.now c.loop-length.length 0) ≡ Some c.in-Some.digit = sym c.decimal_digit.ensures ∙ c.in-Some.is in
     let digit = digit_some (get_or c.args.text.now c.loop-length.length 0) c.in-Some.digit here in
     omega (arith, c.from.ensures, room c.loop-length.value c.loop-length.length c.in-Some.digit c.loop-length.invariant.4 (omega arith) digit.3)
 
@@ -17,7 +17,7 @@ pub loop-length-preserved : goal.loop-length-preserved
 loop-length-preserved c =
     let text = c.args.text.now in
     let i = c.loop-length.length in
-    let here : decimal_digit (get_or text i 0) ≡ Some c.from.result = sym c.decimal-digit.ensures ∙ c.in-Some.is ∙ ap (λ d. Some d) (sym c.from.ensures) in (
+    let here : decimal_digit (get_or text i 0) ≡ Some c.from.result = sym c.decimal_digit.ensures ∙ c.in-Some.is ∙ ap (λ d. Some d) (sym c.from.ensures) in (
       omega arith,
       omega arith,
       count_more text i 0 c.from.result c.if-length-text.true here c.loop-length.invariant.2,
@@ -36,9 +36,9 @@ returns-else-length-text c =
       bound = c.loop-length.invariant.4;
     }
 
-pub returns-in-default : goal.returns-in-default
-returns-in-default c =
-    let none : decimal_digit (get_or c.args.text.now c.loop-length.length 0) ≡ None = sym c.decimal-digit.ensures ∙ c.in-default.is in
+pub returns-in_default : goal.returns-in_default
+returns-in_default c =
+    let none : decimal_digit (get_or c.args.text.now c.loop-length.length 0) ≡ None = sym c.decimal_digit.ensures ∙ c.in_default.is in
     record {
       longest = omega (arith, count_stops c.args.text.now c.loop-length.length c.if-length-text.true none c.loop-length.invariant.2);
       number = c.loop-length.invariant.3;

@@ -3,4 +3,4 @@ use Rattle.text.proofs.Reading.{hex_spells}
 use Rattle.text.proofs.digits.hex_byte.Goals as goal
 
 pub returns : goal.returns
-returns c = record { value = c.two-digits.ensures; spells = hex_spells c.args.high c.args.low c.two-digits.result c.two-digits.ensures }
+returns c = record { value = c.two_digits.ensures; spells = hex_spells c.args.high c.args.low c.two_digits.result c.two_digits.ensures }

@@ -1,4 +1,4 @@
 use Rattle.text.proofs.writing.+push_scaled.Given as goal
 
-abbrev pub decreases-push-scaled : goal.decreases-push-scaled
-decreases-push-scaled l = l.decimals
+abbrev pub decreases-push_scaled : goal.decreases-push_scaled
+decreases-push_scaled l = l.decimals

@@ -2,8 +2,8 @@ use lib.Bits.{or_lt}
 use Rattle.alert.proofs.Sets.{either}
 use Rattle.alert.proofs.conditions.Conditions.union.Goals as goal
 
-pub invariant-of-result : goal.invariant-of-result
-invariant-of-result c = (or_lt 17 c.args.self.bits c.args.other.bits c.args.self.few c.args.other.few, tt)
+pub invariant_of-result : goal.invariant_of-result
+invariant_of-result c = (or_lt 17 c.args.self.bits c.args.other.bits c.args.self.few c.args.other.few, tt)
 
 pub returns : goal.returns
 returns c = either c.args.self.bits c.args.other.bits
