@@ -15,32 +15,32 @@ module _ (whole k d p : ℕ) (power : p ≡ 10 ^ d) (same : d ≡ k) (w : whole 
   alone : whole * p < 10 ^ 18
   alone = omega (arith, with_fraction 0 (power_small k small).0)
 
-pub overflow-mul-ones : goal.overflow-mul-ones
-overflow-mul-ones c = omega (arith, alone c.args.whole c.args.decimals _ _ c.pow.ensures c.from.ensures c.requires.whole c.requires.small)
+pub overflow_mul-ones : goal.overflow_mul-ones
+overflow_mul-ones c = omega (arith, alone c.args.whole c.args.decimals _ _ c.pow.ensures c.from.ensures c.requires.whole c.requires.small)
 
-pub returns-then-is-empty : goal.returns-then-is-empty
-returns-then-is-empty c =
-    let none : eqb (length c.args.rest.now) 0 ≡ true = sym c.if-is-empty.ensures in
+pub returns-then-is_empty : goal.returns-then-is_empty
+returns-then-is_empty c =
+    let none : eqb (length c.args.rest.now) 0 ≡ true = sym c.if-is_empty.ensures in
     let power = is c.args.whole c.args.decimals _ _ c.pow.ensures c.from.ensures c.requires.whole c.requires.small in
     record {
       value = ap (λ p. Ok (c.args.whole * p)) power ∙ sym (rw none);
       bound = alone c.args.whole c.args.decimals _ _ c.pow.ensures c.from.ensures c.requires.whole c.requires.small;
     }
 
-pub overflow-add-result : goal.overflow-add-result
-overflow-add-result c = omega (arith, with_fraction c.args.whole c.args.decimals _ _ c.pow.ensures c.from.ensures c.requires.whole c.requires.small c.in-ok-fraction-to-end.field-0 c.in-ok-fraction-to-end.ensures.bound)
+pub overflow_add-result : goal.overflow_add-result
+overflow_add-result c = omega (arith, with_fraction c.args.whole c.args.decimals _ _ c.pow.ensures c.from.ensures c.requires.whole c.requires.small c.in_ok-fraction_to_end.field-0 c.in_ok-fraction_to_end.ensures.bound)
 
 pub returns : goal.returns
 returns c =
     let whole = c.args.whole in
     let k = c.args.decimals in
     let bs = c.args.rest.now in
-    let f = c.in-ok-fraction-to-end.field-0 in
-    let some : eqb (length bs) 0 ≡ false = sym c.if-is-empty.ensures in
+    let f = c.in_ok-fraction_to_end.field-0 in
+    let some : eqb (length bs) 0 ≡ false = sym c.if-is_empty.ensures in
     let point : after_byte 46 bs ≡ Some c.in-Some.digits.now = sym c.in-Some.ensures in
-    let digits : fraction_to_end k c.in-Some.digits.now ≡ Ok f = sym c.in-ok-fraction-to-end.ensures.value in
+    let digits : fraction_to_end k c.in-Some.digits.now ≡ Ok f = sym c.in_ok-fraction_to_end.ensures.value in
     let power = is whole k _ _ c.pow.ensures c.from.ensures c.requires.whole c.requires.small in
     record {
       value = ap (λ p. Ok (whole * p + f)) power ∙ sym (rw (some, point, digits));
-      bound = with_fraction whole k _ _ c.pow.ensures c.from.ensures c.requires.whole c.requires.small f c.in-ok-fraction-to-end.ensures.bound;
+      bound = with_fraction whole k _ _ c.pow.ensures c.from.ensures c.requires.whole c.requires.small f c.in_ok-fraction_to_end.ensures.bound;
     }

@@ -6,13 +6,13 @@ use Rattle.text.proofs.lines.split_line.Goals as goal
 use Rattle.text.proofs.lines.split_line.Goals.{then-n-text, else-n-text}
 
 -- what follows the line, as the code cuts it
-after : (c : goal.After-rest·1) → drop c.if-n-text.next c.args.text.now ≡ drop (line_length c.args.text.now + 1) c.args.text.now
+after : (c : goal.After-rest-1) → drop c.if-n-text.next c.args.text.now ≡ drop (line_length c.args.text.now + 1) c.args.text.now
 after c =
     let text = c.args.text.now in
     let n = c.length_of_line-n.ensures.value in
     elim c.if-n-text.branch [
-      | then-n-text w ↦ ap (λ k. drop k text) (w.next_is ∙ ap (λ k. k + 1) n)
-      | else-n-text w ↦ ap (λ k. drop k text) w.next_is ∙ drop_past text _ _ w.if-n-text.false (omega (arith, n, w.if-n-text.false))
+      | then-n-text w ↦ ap (λ k. drop k text) (w.next-is ∙ ap (λ k. k + 1) n)
+      | else-n-text w ↦ ap (λ k. drop k text) w.next-is ∙ drop_past text _ _ w.if-n-text.false (omega (arith, n, w.if-n-text.false))
     ]
 
 pub returns : goal.returns

@@ -6,14 +6,14 @@ use Rattle.segment.proofs.Missing.{ok_or_err}
 use Rattle.segment.proofs.Pulling.{alert_made, winner_answers}
 use Rattle.segment.proofs.segments.Segment.alert_read.Goals as goal
 
-pub returns-in-err-answer : goal.returns-in-err-answer
-returns-in-err-answer g c =
+pub returns-in_err-answer : goal.returns-in_err-answer
+returns-in_err-answer g c =
     let xs = g.Self.Segment.entries c.args.self.now in
     let a = c.in-Some.address.byte in
     let won = c.answer.ensures.effects in
     let won' = subst (λ (k : Address). Answered k.byte xs c.answer.result (g.Self.Segment.entries c.answer.new.self)) c.new.ensures won in
     let answered = winner_answers xs _ a c.answer.result (sym c.in-Some.ensures) won' in
-    let was = c.in-err-answer.was in
+    let was = c.in_err-answer.was in
     absurd (ok_or_err c.answer.result _ answered.0 was)
 
 pub returns : goal.returns
@@ -25,6 +25,6 @@ returns g c =
     let answered = winner_answers xs _ a c.answer.result lowest won in
     record {
       own = (a, lowest, subst (λ (k : Address). g.Self.Segment.answers c.args.self.now k.byte c.answer.new.self) c.new.ensures c.answer.ensures.own_val);
-      effects = alert_made c.args.wanted xs _ _ _ _ a (sym c.if-not-is-alert-count.ensures) (le-ltb _ _ c.if-reply-wanted.false) lowest ((refl, c.empty.ensures), c.write-alert-reply.ensures, answered.1);
+      effects = alert_made c.args.wanted xs _ _ _ _ a (sym c.if-not-is_alert_count.ensures) (le-ltb _ _ c.if-reply-wanted.false) lowest ((refl, c.empty.ensures), c.write_alert_reply.ensures, answered.1);
       joint = c.answer.ensures.joint;
     }

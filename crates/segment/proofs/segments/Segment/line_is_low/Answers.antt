@@ -5,5 +5,5 @@ use Rattle.segment.proofs.segments.Segment.line_is_low.Goals as goal
 
 pub returns : goal.returns
 returns g c =
-    c.is-some.ensures ∙ sym (address_in_some c.lowest_pulling.result) ∙ ap is_some c.lowest_pulling.ensures
+    c.is_some.ensures ∙ sym (address_in_some c.lowest_pulling.result) ∙ ap is_some c.lowest_pulling.ensures
     ∙ lowest_some (g.Self.Segment.entries c.args.self.now)
