@@ -21,20 +21,20 @@ module _ (p : Placed) (r : LimitRegister) (v z : ℤ) (q : Quantity) (quantity :
   no_value w e word told =
       ap (with_value p.0 r v w) (sym told ∙ ap (λ k. value_answer p.1 k w) quantity) ∙ ap (with_word p r v) (word ∙ same)
 
-pub returns-in-err-word : goal.returns-in-err-word
-returns-in-err-word c =
-    let p = err_from_is_err_and c.from-residual.result c.from-residual.ensures.1 in
+pub returns-in_err-word : goal.returns-in_err-word
+returns-in_err-word c =
+    let p = err_from_is_err_and c.from_residual.result c.from_residual.ensures.1 in
     let m = c.args.monitor.now in
     rw (p.1, p.2) (record {
-      value = no_word (m.address.byte, m.card) c.args.register c.args.asked _ c.quantity-quantity.result c.quantity-quantity.ensures (to_z-of_z w64 c.args.asked c.ranges.asked) _ c.in-err-word.ensures.answer;
+      value = no_word (m.address.byte, m.card) c.args.register c.args.asked _ c.quantity-quantity.result c.quantity-quantity.ensures (to_z-of_z w64 c.args.asked c.ranges.asked) _ c.in_err-word.ensures.answer;
       sound = tt;
     })
 
-pub returns-in-err-stands-for : goal.returns-in-err-stands-for
-returns-in-err-stands-for c =
-    let p = err_from_is_err_and c.from-residual-in-err-stands-for.result c.from-residual-in-err-stands-for.ensures.1 in
+pub returns-in_err-stands_for : goal.returns-in_err-stands_for
+returns-in_err-stands_for c =
+    let p = err_from_is_err_and c.from_residual-in_err-stands_for.result c.from_residual-in_err-stands_for.ensures.1 in
     let m = c.args.monitor.now in
     rw (p.1, p.2) (record {
-      value = no_value (m.address.byte, m.card) c.args.register c.args.asked _ c.quantity-quantity.result c.quantity-quantity.ensures (to_z-of_z w64 c.args.asked c.ranges.asked) _ _ c.in-ok-word.ensures.answer c.in-err-stands-for.ensures.comes_back;
+      value = no_value (m.address.byte, m.card) c.args.register c.args.asked _ c.quantity-quantity.result c.quantity-quantity.ensures (to_z-of_z w64 c.args.asked c.ranges.asked) _ _ c.in_ok-word.ensures.answer c.in_err-stands_for.ensures.comes_back;
       sound = tt;
     })

@@ -8,4 +8,4 @@ pub returns : goal.returns
 unfolding limit_asked
 returns c =
     let same = to_z-of_z w64 c.args.asked c.ranges.asked in
-    IfOk-weaker c.text-of.result _ _ (λ v h. cc) c.text-of.ensures
+    IfOk-weaker c.text_of.result _ _ (λ v h. cc) c.text_of.ensures

@@ -4,4 +4,4 @@ use Rattle.sheet.proofs.printing.print_misfit.Goals as goal
 
 pub returns : goal.returns
 unfolding misfit_line
-returns c = IfOk-weaker c.text-of.result _ _ (λ v h. cc) c.text-of.ensures
+returns c = IfOk-weaker c.text_of.result _ _ (λ v h. cc) c.text_of.ensures

@@ -7,5 +7,5 @@ use Rattle.sheet.proofs.printing.set_after.Goals as goal
 pub returns : goal.returns
 unfolding set_after
 returns c =
-    let same = to_z-of_z w64 c.args.stands-for c.ranges.stands-for in
-    IfOk-weaker c.text-of.result _ _ (λ v h. cc) c.text-of.ensures
+    let same = to_z-of_z w64 c.args.stands_for c.ranges.stands_for in
+    IfOk-weaker c.text_of.result _ _ (λ v h. cc) c.text_of.ensures

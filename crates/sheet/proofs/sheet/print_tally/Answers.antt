@@ -3,4 +3,4 @@ use Rattle.sheet.proofs.sheet.print_tally.Goals as goal
 
 pub returns : goal.returns
 unfolding last_line
-returns c = c.text-of.ensures
+returns c = c.text_of.ensures
