@@ -9,6 +9,6 @@ pub loop-index-preserved : goal.loop-index-preserved
 loop-index-preserved c =
     let P = Roomy c.args.stations (length c.args.reply.now) in
     let ms = vec_items c.loop-index.moments in
-    let pushed = c.in-ok-push.ensures.items in
+    let pushed = c.in_ok-push.ensures.items in
     let sum = ap length pushed ∙ length-append ms _ in
-    (omega (arith, sum, c.loop-index.invariant.0), subst (λ (z : List Moment). Every P z) (sym pushed) (every_push P ms _ c.loop-index.invariant.1 c.in-ok-blank-moment.ensures))
+    (omega (arith, sum, c.loop-index.invariant.0), subst (λ (z : List Moment). Every P z) (sym pushed) (every_push P ms _ c.loop-index.invariant.1 c.in_ok-blank_moment.ensures))

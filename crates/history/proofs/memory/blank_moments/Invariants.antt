@@ -4,4 +4,4 @@ use Rattle.history.specs.Memory.{Blank}
 use Rattle.history.proofs.memory.blank_moments.Given as goal
 
 abbrev pub invariant-loop-index : goal.invariant-loop-index
-invariant-loop-index l = Blank l.-index l.stations (length l.reply) (vec_items l.moments)
+invariant-loop-index l = Blank l._index l.stations (length l.reply) (vec_items l.moments)

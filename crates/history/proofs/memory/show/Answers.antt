@@ -15,9 +15,9 @@ pub returns : goal.returns
 returns g c =
     let xs = g.S.Segment.entries c.args.segment.now in
     let v = c.args.moment.now.entries in
-    let into = c.as-mut-slice.result.now in
-    let new = c.write-entries.new.into in
-    let long : length into ≡ length xs = c.as-mut-slice.ensures.len ∙ c.requires.0 in
-    let all : new ≡ xs = c.write-entries.ensures.items ∙ over_all xs into long in
+    let into = c.as_mut_slice.result.now in
+    let new = c.write_entries.new.into in
+    let long : length into ≡ length xs = c.as_mut_slice.ensures.len ∙ c.requires.0 in
+    let all : new ≡ xs = c.write_entries.ensures.items ∙ over_all xs into long in
     let fits : length new ≡ v.len = ap length all ∙ sym c.requires.0 in
-    same_moment _ _ _ _ _ _ (with_items_is v new fits ∙ all) c.line-is-low-moment.ensures c.copy-from-slice.ensures.items
+    same_moment _ _ _ _ _ _ (with_items_is v new fits ∙ all) c.line_is_low-moment.ensures c.copy_from_slice.ensures.items

@@ -23,20 +23,20 @@ returns g c =
     let xs = g.S.Segment.entries s in
     let before = c.args.reply.now in
     let begun = c.show.ensures in
-    let turns = newest_first (vec_items c.take-turns-turns.result) in
-    let taken = c.take-turns-turns.ensures in
+    let turns = newest_first (vec_items c.take_turns-turns.result) in
+    let taken = c.take_turns-turns.ensures in
     let chain = subst (λ (m : Moment). Chain joining m turns) (sym begun) taken.taken.chain in
     record {
       recorded = record {
         start = begun;
         calls_made = taken.calls;
         chain = chain;
-        end = subst (λ (m : Moment). shown_at m turns ≡ shown_now (g.S.Segment.entries c.take-turns-turns.new.segment) c.take-turns-turns.new.reply) (sym begun) taken.taken.end;
+        end = subst (λ (m : Moment). shown_at m turns ≡ shown_now (g.S.Segment.entries c.take_turns-turns.new.segment) c.take_turns-turns.new.reply) (sym begun) taken.taken.end;
       };
       law = λ built. law_of joining (moment_of c.show.new.moment) turns (begins joining xs before (moment_of c.show.new.moment) turns begun built chain);
       extends = λ built k past ends.
           let whole = extended joining built k turns past (subst (λ (m : Moment). Chain joining m turns) (sym ends) chain) in
           (whole, law_of joining built (turns ++ k) whole);
-      own = taken.own_val;
+      own = taken.own;
       joint = taken.joint;
     }

@@ -13,7 +13,7 @@ pub returns : goal.returns
 returns g c = record {
   call = refl;
   taken = record { made = c.make-answer.ensures.effects; shown = c.show.ensures };
-  own = c.make-answer.ensures.own_val;
+  own = c.make-answer.ensures.own;
   joint = c.make-answer.ensures.joint;
   count = made_length _ (call_of c.args.call) c.make-answer.result _ _ _ _ c.make-answer.ensures.effects;
 }

@@ -33,15 +33,15 @@ returns c =
     let before = c.args.reply.now in
     let y = c.match-branch-2.entry in
     let after = c.match-branch-2.reply in
-    let access = c.in-ok-judge.field-0 in
+    let access = c.in_ok-judge.field-0 in
     let is : asked q (address_of x) (length before) ≡ Some (Ok access) =
     asked_as q (address_of x) (length before) c.in-Some.form access c.in-Some.ensures
-    (c.in-ok-judge.ensures.value ∙ ap (λ (a : Address). judged c.in-Some.form a.byte q (length before)) c.address.ensures) in
+    (c.in_ok-judge.ensures.value ∙ ap (λ (a : Address). judged c.in-Some.form a.byte q (length before)) c.address.ensures) in
     let done : Done access q.command x before after y =
     elim c.match-branch-2.branch [
       | in-Send w ↦ doing q x y before after access Send w.in-Send.is w.clear.new.self w.entry-is (w.reply-is, w.clear.ensures.sets, w.clear.ensures.rest)
-      | in-Read w ↦ doing q x y before after access Read w.in-Read.is x w.entry-is (reading q x before after w.write-body.new.reply (is ∙ ap (λ (k : Access). Some (Ok k)) w.in-Read.is) w.reply-is w.write-body.ensures.size w.write-body.ensures.value, refl)
-      | in-WriteWord w ↦ doing q x y before after access (WriteWord w.in-WriteWord.word) w.in-WriteWord.is w.write-mask.new.self w.entry-is (w.reply-is, w.write-mask.ensures)
+      | in-Read w ↦ doing q x y before after access Read w.in-Read.is x w.entry-is (reading q x before after w.write_body.new.reply (is ∙ ap (λ (k : Access). Some (Ok k)) w.in-Read.is) w.reply-is w.write_body.ensures.size w.write_body.ensures.value, refl)
+      | in-WriteWord w ↦ doing q x y before after access (WriteWord w.in-WriteWord.word) w.in-WriteWord.is w.write_mask.new.self w.entry-is (w.reply-is, w.write_mask.ensures)
       | in-WriteByte w ↦ doing q x y before after access (WriteByte w.in-WriteByte.field-0) w.in-WriteByte.is x w.entry-is (w.reply-is, refl)
     ] in
     served q x y before after c.empty.result access is c.match-branch-2.auto.reply c.empty.ensures done

@@ -4,4 +4,4 @@ use Rattle.segment_join.proofs.Clashing.{built_joined}
 use Rattle.segment_join.proofs.joins.fit.Goals as goal
 
 pub returns : goal.returns
-returns g c = let e = ap not c.share-address.ensures in record { value = e; built = built_joined _ _ _ e }
+returns g c = let e = ap not c.share_address.ensures in record { value = e; built = built_joined _ _ _ e }

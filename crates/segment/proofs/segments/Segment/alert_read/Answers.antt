@@ -24,7 +24,7 @@ returns g c =
     let won = subst (λ (k : Address). Answered k.byte xs c.answer.result (g.Self.Segment.entries c.answer.new.self)) c.new.ensures c.answer.ensures.effects in
     let answered = winner_answers xs _ a c.answer.result lowest won in
     record {
-      own = (a, lowest, subst (λ (k : Address). g.Self.Segment.answers c.args.self.now k.byte c.answer.new.self) c.new.ensures c.answer.ensures.own_val);
+      own = (a, lowest, subst (λ (k : Address). g.Self.Segment.answers c.args.self.now k.byte c.answer.new.self) c.new.ensures c.answer.ensures.own);
       effects = alert_made c.args.wanted xs _ _ _ _ a (sym c.if-not-is_alert_count.ensures) (le-ltb _ _ c.if-reply-wanted.false) lowest ((refl, c.empty.ensures), c.write_alert_reply.ensures, answered.1);
       joint = c.answer.ensures.joint;
     }

@@ -7,4 +7,4 @@ use Rattle.segment_join.proofs.joins.JoinSegment.lowest_pulling.Goals as goal
 pub returns : goal.returns
 returns g c =
     let s = c.args.self.now in
-    c.lower-address.ensures ∙ lowest_joined s.both (g.L.Segment.entries s.left) (g.R.Segment.entries s.right) _ _ c.if-not-self.false c.lowest-pulling-left.ensures c.lowest_pulling.ensures
+    c.lower_address.ensures ∙ lowest_joined s.both (g.L.Segment.entries s.left) (g.R.Segment.entries s.right) _ _ c.if-not-self.false c.lowest_pulling-left.ensures c.lowest_pulling.ensures
