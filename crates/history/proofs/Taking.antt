@@ -4,10 +4,10 @@ use Rattle.std.proofs.Common.{◌≡◌, ℕ, List, [], ◌∷◌, ◌++◌, map
 use mathlib.Core.List.{map-append, reverse-append}
 use Rattle.alert.specs.declared.entries.Entry.{Entry}
 use Rattle.segment.specs.declared.segments.JoinAnswer.{JoinAnswer}
-use Rattle.history.specs.Histories.{Chain, Follows, Lined, Made}
+use Rattle.history.specs.Histories.{Chain, Follows, Made}
 use Rattle.history.specs.Law.{shown_at}
 use Rattle.history.specs.Memory.{Every, TurnTaken, TurnsTaken}
-use Rattle.history.specs.Recorded.{OwnRun, call_of, moment_of, newest_first, reply_at, shown_now, turn_of}
+use Rattle.history.specs.Recorded.{OwnRun, call_of, newest_first, reply_at, shown_now, turn_of}
 use Rattle.history.specs.Turns as turn
 use Rattle.history.specs.Turns.{Called}
 use Rattle.history.specs.declared.calls.Answer.{Answer}

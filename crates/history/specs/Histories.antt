@@ -1,6 +1,6 @@
 -- What a history is: turns that follow one another as the calls' effects say, from a segment as built on.
 -- Assumes nothing.
-use Rattle.std.specs.Prelude.{◌≡◌, ℕ, Bool, List, [], ◌∷◌, ◌++◌, Option, Result}
+use Rattle.std.specs.Prelude.{◌≡◌, ℕ, List, [], ◌∷◌, Option, Result}
 use Rattle.alert.specs.declared.conditions.Conditions.{Conditions}
 use Rattle.alert.specs.declared.entries.Entry.{Entry}
 use Rattle.segment.specs.Segments as segment

@@ -1,6 +1,6 @@
 -- A turn of a history: a call and its answer, what was done by it, and what shows at its end.
 -- Assumes nothing.
-use Rattle.std.specs.Prelude.{ℕ, ◌/◌, Bool, true, false, cond, ◌&&◌, List, [], ◌∷◌, Some, None, Ok, Err, Option, ◌==◌, slice_index}
+use Rattle.std.specs.Prelude.{ℕ, ◌/◌, Bool, true, false, cond, ◌&&◌, List, Some, None, Ok, Err, Option, ◌==◌, slice_index}
 use Rattle.alert.specs.declared.conditions.Conditions.{Conditions}
 use Rattle.alert.specs.declared.entries.Entry.{Entry}
 use Rattle.request.specs.Requests.{taken_apart}

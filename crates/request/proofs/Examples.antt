@@ -1,6 +1,6 @@
 -- Transfers and replies, worked out.
 -- Assumes nothing.
-use Rattle.std.proofs.Common.{◌≡◌, ℕ, List, [], ◌∷◌, Some, Ok, Err, refl}
+use Rattle.std.proofs.Common.{◌≡◌, ℕ, [], ◌∷◌, Some, Ok, Err, refl}
 use Rattle.smbus.specs.PacketErrorCode.{byte_step, code_of, write_message}
 use Rattle.request.specs.Judging.{judged}
 use Rattle.request.specs.Replies.{read_reply}

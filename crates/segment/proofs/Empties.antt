@@ -1,7 +1,6 @@
 -- Sets without a condition are alike.
 -- Assumes nothing.
-use Rattle.std.proofs.Common.{ℕ}
-use Rattle.alert.specs.Conditions.{Empty, Has}
+use Rattle.alert.specs.Conditions.{Empty}
 use Rattle.alert.specs.declared.conditions.Conditions.{Conditions}
 use Rattle.alert.proofs.Sets.{none}
 use Rattle.segment.specs.Faults.{Same, no_conditions}

@@ -1,6 +1,6 @@
 -- Entries by their addresses: in a list, and in one list after another.
 -- Assumes nothing.
-use Rattle.std.proofs.Common.{◌≡◌, ℕ, Bool, true, false, ◌||◌, eqb, ◌⊎◌, List, [], ◌∷◌, ◌++◌, sym, refl, ap, ◌∙◌, subst, inl, inr, eq-eqb, ne_eqb, eqb-true}
+use Rattle.std.proofs.Common.{◌≡◌, ℕ, Bool, true, false, ◌||◌, eqb, List, [], ◌∷◌, ◌++◌, refl, ap, ◌∙◌, inl, inr, eq-eqb}
 use borrow.Author.Tests.{eqb-false, both_ways}
 use Rattle.alert.specs.Entries.{address_of}
 use Rattle.alert.specs.declared.entries.Entry.{Entry}

@@ -1,6 +1,6 @@
 -- The lowest address that pulls, and whether any does.
 -- Assumes nothing.
-use Rattle.std.proofs.Common.{◌≡◌, ℕ, ◌≤◌, min, Bool, true, false, cond, ◌||◌, eqb, ltb, List, [], ◌∷◌, ◌++◌, length, drop, is_some, Some, None, Ok, Err, Option, Result, sym, refl, ap, ◌∙◌, subst, inl, inr, arith, eq-eqb}
+use Rattle.std.proofs.Common.{◌≡◌, ℕ, min, Bool, true, false, cond, ◌||◌, eqb, ltb, List, [], ◌∷◌, ◌++◌, length, drop, is_some, Some, None, Ok, Option, Result, sym, refl, ap, ◌∙◌, subst, inl, inr, arith, eq-eqb}
 use borrow.Author.Tests.{eqb-false, both_ways}
 use Rattle.alert.specs.declared.conditions.Conditions.{Conditions}
 use Rattle.smbus.specs.declared.address.Address.{Address}

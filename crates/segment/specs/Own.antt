@@ -1,6 +1,6 @@
 -- Where a call goes, by the stations' own rules: to the station at its address, on the left side or else on the right.
 -- Assumes nothing.
-use Rattle.std.specs.Prelude.{◌≡◌, ℕ, Bool, true, false, List, ◌++◌, length, take, drop, Some, None, Ok, Err, Option, Result, nat_lt}
+use Rattle.std.specs.Prelude.{◌≡◌, ℕ, Bool, true, false, List, ◌++◌, length, take, drop, Some, Err, Option, Result, nat_lt}
 use Rattle.alert.specs.declared.conditions.Conditions.{Conditions}
 use Rattle.request.specs.Requests.{taken_apart}
 use Rattle.request.specs.declared.requests.Request.{Request}

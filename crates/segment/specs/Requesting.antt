@@ -1,6 +1,6 @@
 -- The three commands that every station serves: clear, the mask, and the black box.
 -- Assumes nothing.
-use Rattle.std.specs.Prelude.{◌≡◌, ℕ, ◌/◌, ◌%◌, Bool, cond, List, [], ◌∷◌, length, Some, None, Ok, Err, Option, Result, ◌==◌}
+use Rattle.std.specs.Prelude.{◌≡◌, ℕ, ◌/◌, ◌%◌, Bool, cond, List, [], ◌∷◌, Some, None, Ok, Err, Option, Result, ◌==◌}
 use Rattle.alert.specs.Conditions.{Only}
 use Rattle.alert.specs.Entries.{address_of, box_of, mask_of}
 use Rattle.alert.specs.declared.conditions.Conditions.{Conditions}

@@ -1,6 +1,6 @@
 -- What a segment of any shape shows of a call: its meaning is its list of entries.
 -- Assumes nothing.
-use Rattle.std.specs.Prelude.{◌≡◌, ℕ, ◌≤◌, min, Bool, true, false, cond, not, ◌||◌, ◌⊎◌, List, [], ◌∷◌, ◌++◌, length, take, drop, Some, None, Ok, Err, Option, Result, ◌==◌, ◌≢◌, nat_lt}
+use Rattle.std.specs.Prelude.{◌≡◌, ℕ, min, Bool, true, false, cond, ◌||◌, ◌⊎◌, List, [], ◌∷◌, ◌++◌, length, take, drop, Some, None, Ok, Err, Option, Result, ◌==◌, ◌≢◌, nat_lt}
 use Rattle.smbus.specs.Address.{read_byte, write_byte}
 use Rattle.smbus.specs.PacketErrorCode.{code_of}
 use Rattle.alert.specs.Conditions.{Empty}

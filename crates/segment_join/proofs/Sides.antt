@@ -1,6 +1,6 @@
 -- A call to a join, from the call to its left side and, where that misses, to its right side.
 -- Assumes nothing.
-use Rattle.std.proofs.Common.{◌≡◌, ℕ, Bool, true, false, ◌||◌, ◌⊎◌, List, ◌++◌, sym, refl, ap, ◌∙◌, subst, inl, inr}
+use Rattle.std.proofs.Common.{◌≡◌, ℕ, Bool, true, false, ◌||◌, List, ◌++◌, sym, refl, ap, ◌∙◌, subst, inl, inr}
 use borrow.Author.Tests.{both_ways}
 use Rattle.alert.specs.declared.entries.Entry.{Entry}
 use Rattle.segment.specs.Own.{OnSide}

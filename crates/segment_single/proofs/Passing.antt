@@ -1,6 +1,6 @@
 -- A transfer that passes the segment's checks, and what the station makes of it.
 -- Assumes nothing.
-use Rattle.std.proofs.Common.{◌≡◌, ℕ, ◌-◌, ◌≤◌, Bool, true, false, ltb, List, ◌++◌, length, take, drop, is_some, Some, None, Ok, Err, Option, Result, sym, refl, ap, ◌∙◌, subst, arith, le-ltb}
+use Rattle.std.proofs.Common.{◌≡◌, ℕ, ◌-◌, ◌≤◌, Bool, true, false, ltb, List, ◌++◌, length, take, drop, is_some, Some, None, Ok, Err, Option, Result, sym, refl, ap, subst, arith, le-ltb}
 use borrow.Author.Tests.{both_ways}
 use borrow.Rule.Slice.PartMut.{post_of, Post-is}
 use Rattle.alert.specs.declared.conditions.Conditions.{Conditions}

@@ -7,7 +7,7 @@ use Rattle.direct.specs.declared.quantities.Quantity.{Quantity}
 use Rattle.direct.specs.declared.quantities.Quantity.TheVariants.{Vin, Vout, Vaux, Iin, Pin, Temperature}
 use Rattle.std.proofs.lemmas.Bool.{eq-eqb}
 use Rattle.std.proofs.lemmas.Bool.Decides.{nat_tests}
-use Rattle.sheet_line.specs.Fitting.{After, Word, Address, Digits, Value, Settings, Tail, Formed, Note, Fits, SameNext, FirstMisfit, Placed}
+use Rattle.sheet_line.specs.Fitting.{After, Word, Address, Digits, Value, Settings, Tail, Formed, Fits, SameNext, FirstMisfit, Placed}
 use Rattle.sheet_line.specs.Forms.{decimals, settings, after_keyword, form, line_or_misfit, line_of}
 use Rattle.sheet_line.specs.Names.{keywords, blank, kinds, current_limits, registers}
 use Rattle.sheet_line.specs.Numbers.{each, number_to_end, value_to_end}

@@ -1,6 +1,6 @@
 -- The addresses that a device may have, and the two bytes that begin a message to one.
 -- Assumes nothing.
-use Rattle.std.specs.Prelude.{◌≡◌, ℕ, ◌+◌, ◌*◌, ◌≤◌, ◌≢◌}
+use Rattle.std.specs.Prelude.{ℕ, ◌+◌, ◌*◌, ◌≤◌, ◌≢◌}
 
 -- a lawful address: 08h to 77h, and not 0Ch, the alert response address
 abbrev pub Lawful : ℕ → Type 0

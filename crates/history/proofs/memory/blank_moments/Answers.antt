@@ -1,5 +1,5 @@
 -- One moment more has memory.
-use Rattle.std.proofs.Common.{◌≡◌, List, [], ◌∷◌, ◌++◌, length, vec_items, sym, ap, ◌∙◌, subst, arith, length-append}
+use Rattle.std.proofs.Common.{List, length, vec_items, sym, ap, ◌∙◌, subst, arith, length-append}
 use Rattle.history.specs.Memory.{Every, Roomy}
 use Rattle.history.specs.declared.moments.Moment.{Moment}
 use Rattle.history.proofs.Taking.{every_push}

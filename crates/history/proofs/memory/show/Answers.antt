@@ -1,8 +1,7 @@
 -- The entries fill their places, and the reply buffer is copied.
-use Rattle.std.proofs.Common.{◌≡◌, ℕ, Bool, List, length, sym, refl, ap, ◌∙◌, arith}
+use Rattle.std.proofs.Common.{◌≡◌, ℕ, Bool, List, length, sym, ap, ◌∙◌}
 use Rattle.std.proofs.lemmas.List.{with_items_is}
 use Rattle.alert.specs.declared.entries.Entry.{Entry}
-use Rattle.segment.specs.Segments.{written_over}
 use Rattle.history.specs.Turns.{Moment}
 use Rattle.history.proofs.Lengths.{over_all}
 use Rattle.history.proofs.memory.show.Goals as goal

@@ -1,5 +1,5 @@
 -- The turns follow what showed first; every history keeps the law.
-use Rattle.std.proofs.Common.{◌≡◌, ℕ, List, ◌++◌, vec_items, Option, sym, refl, ap, ◌∙◌, subst}
+use Rattle.std.proofs.Common.{◌≡◌, ℕ, List, ◌++◌, vec_items, Option, sym, refl, subst}
 use Rattle.alert.specs.declared.entries.Entry.{Entry}
 use Rattle.segment.specs.Segments.{Built}
 use Rattle.segment.specs.declared.segments.JoinAnswer.{JoinAnswer}

@@ -1,5 +1,5 @@
 -- The call leaves as many entries as there were, so there is memory for them.
-use Rattle.std.proofs.Common.{◌≡◌, sym, refl, ◌∙◌}
+use Rattle.std.proofs.Common.{sym, refl, ◌∙◌}
 use Rattle.history.specs.Recorded.{call_of}
 use Rattle.history.proofs.Lengths.{made_length}
 use Rattle.history.proofs.recording.take_turn.Goals as goal

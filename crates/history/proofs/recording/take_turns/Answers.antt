@@ -1,5 +1,5 @@
 -- One turn more: its memory is the last that is left, and there is a place for it.
-use Rattle.std.proofs.Common.{◌≡◌, ℕ, ◌+◌, ◌-◌, ◌<◌, min, Bool, true, false, cond, List, [], ◌∷◌, ◌++◌, map, length, get_or, take, vec_items, vec_len, vec_capacity, Option, sym, refl, ap, ◌∙◌, subst, arith, length-append, length-take}
+use Rattle.std.proofs.Common.{◌≡◌, ℕ, ◌-◌, ◌<◌, Bool, cond, List, [], ◌∷◌, ◌++◌, map, length, take, vec_items, vec_len, vec_capacity, Option, sym, ap, ◌∙◌, subst, arith, length-append, length-take}
 use mathlib.Core.List.{map-append}
 use Rattle.std.proofs.lemmas.List.{length-map, take_all, take_more}
 use Rattle.segment.specs.declared.segments.JoinAnswer.{JoinAnswer}

@@ -1,5 +1,5 @@
 -- Where no address clashes, sides as built make a join as built.
-use Rattle.std.proofs.Common.{◌≡◌, not, ap}
+use Rattle.std.proofs.Common.{not, ap}
 use Rattle.segment_join.proofs.Clashing.{built_joined}
 use Rattle.segment_join.proofs.joins.fit.Goals as goal
 

@@ -1,6 +1,5 @@
 -- The left side answers, or it misses, leaves the reply buffer, and the right side answers.
-use Rattle.std.proofs.Common.{◌≡◌, Err, sym, refl, ap, ◌∙◌, subst}
-use Rattle.segment.specs.Answers.{BySegment}
+use Rattle.std.proofs.Common.{◌≡◌, sym, refl, subst}
 use Rattle.segment.specs.Segments.{Refused, Transferred, TransferredAt}
 use Rattle.segment.specs.declared.faults.SegmentFault.TheVariants.{NoStation}
 use Rattle.segment.proofs.Missing.{by_segment, goes_on, stays, transfer_answers}

@@ -1,8 +1,8 @@
 -- A refused sample raises nothing.
-use Rattle.std.proofs.Common.{◌≡◌, ℕ, ◌⊎◌, ◌↔◌, sym, subst, inl, inr}
-use Rattle.alert.specs.Conditions.{Empty, Has}
+use Rattle.std.proofs.Common.{◌≡◌, ◌⊎◌, sym, subst, inl, inr}
+use Rattle.alert.specs.Conditions.{Empty}
 use Rattle.alert.specs.declared.conditions.Conditions.{Conditions}
-use Rattle.segment.specs.Faults.{Same, no_conditions, raised_by}
+use Rattle.segment.specs.Faults.{Same, raised_by}
 use Rattle.segment.specs.declared.faults.StationFault.{StationFault}
 use Rattle.segment.specs.declared.faults.StationFault.TheVariants.{WordOutOfRange, MissingPin}
 use Rattle.segment.proofs.Empties.{empty_same}

@@ -1,5 +1,5 @@
 -- The lowest address that pulls stands on the segment, so it answers.
-use Rattle.std.proofs.Common.{◌≡◌, Some, sym, refl, ap, ◌∙◌, subst, le-ltb}
+use Rattle.std.proofs.Common.{sym, refl, subst, le-ltb}
 use Rattle.smbus.specs.declared.address.Address.{Address}
 use Rattle.segment.specs.Segments.{Answered}
 use Rattle.segment.proofs.Missing.{ok_or_err}

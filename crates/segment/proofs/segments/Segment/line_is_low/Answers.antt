@@ -1,5 +1,5 @@
 -- The line is low where some station pulls.
-use Rattle.std.proofs.Common.{◌≡◌, is_some, sym, ap, ◌∙◌}
+use Rattle.std.proofs.Common.{is_some, sym, ap, ◌∙◌}
 use Rattle.segment.proofs.Pulling.{address_in_some, lowest_some}
 use Rattle.segment.proofs.segments.Segment.line_is_low.Goals as goal
 

@@ -1,6 +1,5 @@
 -- The left side answers, or it misses and the right side does.
-use Rattle.std.proofs.Common.{◌≡◌, Err, sym, refl, ap, ◌∙◌, subst}
-use Rattle.segment.specs.Answers.{BySegment}
+use Rattle.std.proofs.Common.{◌≡◌, Err, sym, refl}
 use Rattle.segment.specs.Segments.{AnsweredAt}
 use Rattle.segment.specs.declared.faults.SegmentFault.TheVariants.{NoStation}
 use Rattle.segment.proofs.Missing.{by_segment, goes_on, answer_answers, stays}

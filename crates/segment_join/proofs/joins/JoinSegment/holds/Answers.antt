@@ -1,5 +1,5 @@
 -- An address stands on a join where it stands on a side.
-use Rattle.std.proofs.Common.{◌≡◌, sym, ◌∙◌}
+use Rattle.std.proofs.Common.{sym, ◌∙◌}
 use Rattle.segment_join.proofs.Sides.{holds_left, holds_right}
 use Rattle.segment_join.proofs.joins.JoinSegment.holds.Goals as goal
 

@@ -1,6 +1,5 @@
 -- The lowest of a join is the lower of its sides' lowest.
-use Rattle.std.proofs.Common.{◌≡◌, Bool, true, List, sym, ap, ◌∙◌}
-use Rattle.segment.specs.Segments.{joined_entries, lower, lowest_pulling}
+use Rattle.std.proofs.Common.{◌∙◌}
 use Rattle.segment.proofs.Pulling.{lowest_joined}
 use Rattle.segment_join.proofs.joins.JoinSegment.lowest_pulling.Goals as goal
 

@@ -1,8 +1,5 @@
 -- The right side's entries follow those of the left.
-use Rattle.std.proofs.Common.{◌≡◌, ℕ, ◌+◌, ◌-◌, min, Bool, true, false, List, ◌++◌, length, take, drop, sym, refl, ap, ◌∙◌, subst, arith, length-append, length-drop}
-use borrow.Author.Tests.{both_ways}
-use Rattle.alert.specs.declared.entries.Entry.{Entry}
-use Rattle.segment.specs.Segments.{joined_entries, written_over}
+use Rattle.std.proofs.Common.{◌≡◌, length, ap, ◌∙◌, arith, length-append, length-drop}
 use Rattle.segment.proofs.Buffers.{over_join_part, over_length, rest_whole}
 use Rattle.segment_join.proofs.joins.JoinSegment.write_entries.Goals as goal
 

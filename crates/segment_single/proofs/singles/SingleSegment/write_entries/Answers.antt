@@ -1,5 +1,5 @@
 -- One entry goes into the first place.
-use Rattle.std.proofs.Common.{◌≡◌, set, ap, ◌∙◌, arith}
+use Rattle.std.proofs.Common.{set, ap, ◌∙◌, arith}
 use Rattle.alert.specs.declared.entries.Entry.{Entry}
 use Rattle.segment.proofs.Buffers.{over_one}
 use Rattle.segment_single.proofs.singles.SingleSegment.write_entries.Goals as goal
