@@ -1,7 +1,7 @@
 -- How bytes are spelled in upper-case hexadecimal.
 -- Assumes nothing.
 use Rattle.std.specs.Prelude.{◌≡◌, ℕ, ◌<◌, List, [], ◌∷◌, ◌++◌}
-use Rattle.std.specs.List.{AllByRecursion as All}
+use Rattle.std.specs.List.{AllByRecursion}
 use Rattle.text.specs.Writing.{hex_text}
 
 -- a message is spelled byte after byte
@@ -11,4 +11,4 @@ spelled (b ∷ bytes) = hex_text b ++ spelled bytes
 
 -- the line spells some bytes
 abbrev pub Hexadecimal : List ℕ → Type 0
-Hexadecimal line = (bytes : List ℕ) × All (λ b. b < 256) bytes × (line ≡ spelled bytes)
+Hexadecimal line = (bytes : List ℕ) × AllByRecursion (λ b. b < 256) bytes × (line ≡ spelled bytes)
