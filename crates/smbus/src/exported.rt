@@ -1,12 +1,11 @@
-// The packet error code for callers in C.
+// The packet error code that callers in C ask for; the crate `smbus_c` exports it to them.
 ghost use Rattle.std.specs.Prelude.{◌≡◌, ℕ, List, [], ◌∷◌, ◌++◌, ◌≢◌};
 ghost use Rattle.smbus.specs.PacketErrorCode.{OneByteChanged, code_from, code_of};
 
 use crate::packet_error_code::continued;
 
-// The code of the bytes, which C passes as a pointer to them and their number.
-#[unsafe(no_mangle)]
-pub extern "C" fn smbus_code(bytes: &[u8]) -> u8
+// The code of the bytes.
+pub fn smbus_code(bytes: &[u8]) -> u8
     ensures value { result ≡ code_of bytes.now }
     ensures zero { code_of (bytes.now ++ result ∷ []) ≡ 0 }
     ensures caught { (changed : List ℕ) → OneByteChanged bytes.now changed → code_of changed ≢ result }
