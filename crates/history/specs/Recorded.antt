@@ -64,8 +64,8 @@ pub record Recorded (joining : Option JoinAnswer) (xs : List Entry) (before : Li
   pub end : shown_at (start_of h) (turns_of h) ≡ shown_now ys after
 
 -- the turns of the run go on from a history k that ended as the run began: together they are a history, and the law holds of it
-abbrev pub Goes_on : Option JoinAnswer → History → Type 0
-Goes_on joining h =
+abbrev pub GoesOn : Option JoinAnswer → History → Type 0
+GoesOn joining h =
     (built : turn.Moment) (k : List turn.Turn) → histories.History joining built k → shown_at built k ≡ start_of h
     → histories.History joining built (turns_of h ++ k) × Law built (turns_of h ++ k)
 

@@ -2,7 +2,7 @@
 ghost use Rattle.std.specs.Prelude.{◌≡◌, ◌≤◌, true, List, [], map, length, IfOk, vec_capacity, MatchResult};
 ghost use Rattle.history.specs.Histories.{OwnMade};
 ghost use Rattle.history.specs.Memory.{Blank, Roomy, TurnTaken, TurnsTaken};
-ghost use Rattle.history.specs.Recorded.{Goes_on, Lawful, OwnRun, Recorded, call_of, call_part, newest_first, turns_of};
+ghost use Rattle.history.specs.Recorded.{GoesOn, Lawful, OwnRun, Recorded, call_of, call_part, newest_first, turns_of};
 
 use crate::calls::Call;
 use crate::making::make;
@@ -21,7 +21,7 @@ pub fn run<'a, S: Segment>(
 ) -> Result<History<'a>, AllocError>
     ensures recorded { MatchResult result (λ h. Recorded (S.Segment.joining segment.old) (S.Segment.entries segment.old) reply.old calls.now h reply.new (S.Segment.entries segment.new)) (λ _. (segment.new ≡ segment.old) × (reply.new ≡ reply.old)) }
     ensures law { IfOk result (Lawful (S.Segment.entries segment.old)) }
-    ensures extends { IfOk result (Goes_on (S.Segment.joining segment.old)) }
+    ensures extends { IfOk result (GoesOn (S.Segment.joining segment.old)) }
     ensures own { IfOk result (λ h. OwnRun (OwnMade S.Segment.samples S.Segment.transfers S.Segment.answers S.Segment.entries) segment.old reply.old (turns_of h) segment.new) }
     ensures joint { S.Segment.joining segment.new ≡ S.Segment.joining segment.old }
 {
