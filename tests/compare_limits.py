@@ -1,7 +1,7 @@
 #!/usr/bin/env python3
 """Holds the program limits to the independent calculation on 400 sheets made at random, wrong lines among them.
 
-  tests/compare_limits.py target/bin/limits
+  tests/compare_limits.py crates/limits/out/limits
 
 Not part of the gate: it needs the built program. It prints how many lines were the same, or the first that was not.
 """

@@ -1,7 +1,8 @@
 -- An example history as data: two joined stations, 10h and 20h, and every kind of call and of answer once.
 -- Assumes nothing.
 use Rattle.std.specs.Prelude.{ℕ, ◌^◌, Bool, true, false, T, List, [], ◌∷◌, ◌++◌, replicate, Some, Ok, Err, Option, nat_lt}
-use Rattle.std.proofs.Common.{arith, lit<, lit≤}
+use Rattle.std.proofs.Common.{refl, lit<, lit≤}
+use Rattle.std.proofs.lemmas.Bool.{eqb-false}
 use Rattle.smbus.specs.declared.address.Address as smbus
 use Rattle.alert.specs.Boxes.{new_box}
 use Rattle.alert.specs.Entries.{entry_of}
@@ -18,7 +19,7 @@ use Rattle.segment.specs.declared.faults.SegmentFault.TheVariants.{NoStation, No
 use Rattle.segment.specs.declared.faults.StationFault.TheVariants.{UnknownCommand, WordOutOfRange}
 use Rattle.segment.specs.declared.samples.Sample.{Sample}
 use Rattle.segment.specs.declared.segments.JoinAnswer as join
-use Rattle.segment.specs.declared.segments.JoinAnswer.TheVariants as join-answer
+use Rattle.segment.specs.declared.segments.JoinAnswer.TheVariants as join_answer
 use Rattle.history.specs.Turns.{Called, Moment, Turn, alert_read, ask, sample, transfer}
 use Rattle.history.specs.declared.calls.Answer.{Answer}
 use Rattle.history.specs.declared.calls.Answer.TheVariants as answer
@@ -49,10 +50,10 @@ box state byte = record { state = state; bytes = replicate 12 byte }
 
 -- the two addresses
 abbrev pub left : smbus.Address
-left = record { byte = 0x10; lawful = (lit≤ tt, lit≤ tt, λ e. omega arith) }
+left = record { byte = 0x10; lawful = (lit≤ tt, lit≤ tt, eqb-false _ _ refl) }
 
 abbrev pub right : smbus.Address
-right = record { byte = 0x20; lawful = (lit≤ tt, lit≤ tt, λ e. omega arith) }
+right = record { byte = 0x20; lawful = (lit≤ tt, lit≤ tt, eqb-false _ _ refl) }
 
 -- ---- the entries of 10h: as built, with condition 4 raised, with condition 1 raised too, answered, cleared
 abbrev pub left_built : Entry
@@ -115,7 +116,7 @@ readings = record { vin = 0; vout = 0; iin = 0; vaux = 0; temperature = 0; pins 
 
 -- what the join answers
 abbrev pub joining : Option join.JoinAnswer
-joining = Some join-answer.Joined
+joining = Some join_answer.Joined
 
 -- the two stations as built
 abbrev pub start : Moment
