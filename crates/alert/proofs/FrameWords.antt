@@ -1,23 +1,16 @@
--- The bytes of six words.
+-- The bytes of words.
 -- Assumes nothing.
-use Rattle.std.proofs.Common.{◌≡◌, ℕ, ◌/◌, ◌%◌, ◌^◌, ◌<◌, List, [], ◌∷◌, length, get_or, refl, ap, ◌∙◌, arith}
+use Rattle.std.proofs.Common.{◌≡◌, ℕ, suc, ◌/◌, ◌%◌, ◌<◌, List, [], ◌∷◌, ◌++◌, length, get_or, refl, arith}
+use Rattle.std.specs.List.{flat_map}
+use Rattle.alert.specs.Frames.{frame_bytes}
 
--- six words, one by one
-pub six_words : (words : List ℕ) → length words ≡ 6
-    → words ≡ get_or words 0 0 ∷ get_or words 1 0 ∷ get_or words 2 0 ∷ get_or words 3 0 ∷ get_or words 4 0 ∷ get_or words 5 0 ∷ []
-six_words [] n = absurd (omega arith)
-six_words (a ∷ []) n = absurd (omega arith)
-six_words (a ∷ b ∷ []) n = absurd (omega arith)
-six_words (a ∷ b ∷ c ∷ []) n = absurd (omega arith)
-six_words (a ∷ b ∷ c ∷ d ∷ []) n = absurd (omega arith)
-six_words (a ∷ b ∷ c ∷ d ∷ e ∷ []) n = absurd (omega arith)
-six_words (a ∷ b ∷ c ∷ d ∷ e ∷ f ∷ []) n = refl
-six_words (a ∷ b ∷ c ∷ d ∷ e ∷ f ∷ g ∷ more) n = absurd (omega arith)
-
--- the two bytes of a word before those of the words that follow
-pub low_high : (pair : List ℕ) (word : ℕ) → pair ≡ word % 256 ∷ word / 256 % 256 ∷ [] → word < 2 ^ 16 → (rest more : List ℕ) → rest ≡ more
-    → (get_or pair 0 0 ∷ get_or pair 1 0 ∷ rest) ≡ (word % 256 ∷ word / 256 ∷ more)
-low_high pair word e f rest more m =
-    let low : get_or pair 0 0 ≡ word % 256 = ap (λ (p : List ℕ). get_or p 0 0) e in
-    let high : get_or pair 1 0 ≡ word / 256 = ap (λ (p : List ℕ). get_or p 1 0) e ∙ omega arith in
-    λ i. low i ∷ high i ∷ m i
+-- pairs that are the two bytes of each word are the bytes of the words, one pair after another
+pub bytes_of_pairs : (words : List ℕ) (pairs : List (List ℕ)) → length pairs ≡ length words
+    → ((k : ℕ) → k < length words → get_or pairs k [] ≡ get_or words k 0 % 256 ∷ get_or words k 0 / 256 ∷ []) → flat_map (λ pair. pair) pairs ≡ frame_bytes words
+bytes_of_pairs [] [] n at = refl
+bytes_of_pairs [] (pair ∷ pairs) n at = absurd (omega arith)
+bytes_of_pairs (word ∷ words) [] n at = absurd (omega arith)
+bytes_of_pairs (word ∷ words) (pair ∷ pairs) n at =
+    let first = at 0 (omega arith) in
+    let rest = bytes_of_pairs words pairs (omega arith) (λ k h. at (suc k) (omega arith)) in
+    λ i. first i ++ rest i

@@ -5,3 +5,4 @@ mod FrameWords
 pub mod Asserting
 pub mod Pulling
 mod Examples
+mod HexDigits

@@ -3,9 +3,10 @@
 use Rattle.std.proofs.Common.{◌≡◌, ℕ, true, false, ◌↔◌, sym, refl, subst, ⊎_elim}
 use Rattle.std.proofs.lemmas.Bool.{both_ways, cases_Bool}
 use Rattle.alert.specs.Alerts.{Asserts}
-use Rattle.alert.specs.Boxes.{noted}
-use Rattle.alert.specs.Conditions.{Has, has}
-use Rattle.alert.specs.Entries.{Boxed, answered, frame_of, latched, pulls, with_box}
+use Rattle.alert.specs.Boxes.{new_box, noted}
+use Rattle.alert.specs.Conditions.{Empty, Has, has}
+use Rattle.alert.specs.Entries.{AsBuilt, Boxed, answered, frame_of, latched, pulls, with_box}
+use Rattle.alert.specs.declared.boxes.BlackBox.{BlackBox}
 use Rattle.alert.specs.declared.entries.Entry.{Entry}
 use Rattle.alert.proofs.Asserting.{asserts_test}
 
@@ -31,3 +32,9 @@ within e = e.alert.within
 pub boxed : (before e : Entry) → e ≡ with_box before (noted before.blackbox (pulls before) (frame_of before)) → Boxed before.blackbox e
 unfolding pulls
 boxed before e is = subst (Boxed before.blackbox) (sym is) refl
+
+-- an entry of which nothing is answered, with a new box, is after the box rule as one is built
+pub as_built : (before e : Entry) → Empty (answered before) → before.blackbox ≡ new_box
+    → e ≡ with_box before (noted before.blackbox (pulls before) (frame_of before)) → AsBuilt e
+as_built before e empty fresh is =
+    (subst (λ (x : Entry). Empty (answered x)) (sym is) empty, subst (λ (b : BlackBox). Boxed b e) fresh (boxed before e is))

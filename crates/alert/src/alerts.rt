@@ -8,7 +8,7 @@ use crate::conditions::Conditions;
 
 // Latched: raised since the last clear. Answered: latched when the station last answered an alert read. By the type, no condition
 // is answered that is not latched.
-#[derive(Clone, Copy)]
+#[derive(Clone, Copy, PartialEq, Eq, Debug)]
 pub struct AlertRecord {
     latched: Conditions,
     answered: Conditions,

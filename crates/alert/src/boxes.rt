@@ -5,14 +5,15 @@ ghost use Rattle.alert.specs.Boxes.{armed_again, is_armed, new_box, noted};
 use crate::frames::Frame;
 
 // Whether the next pull is taken, or one was taken since the last arming.
-#[derive(Clone, Copy)]
+#[derive(Clone, Copy, PartialEq, Eq, Debug)]
 pub enum BoxState {
     Armed,
     Taken,
 }
 
-// Twelve bytes, and beside them whether the box is armed.
-#[derive(Clone, Copy)]
+// Twelve bytes, and beside them whether the box is armed. The bytes are no part of a state: a box that is armed again keeps them
+// until its station pulls, so that both states have them.
+#[derive(Clone, Copy, PartialEq, Eq, Debug)]
 pub struct BlackBox {
     state: BoxState,
     bytes: [u8; 12],
@@ -29,16 +30,18 @@ impl BlackBox {
         }
     }
 
+    // The bytes of the box: those of the frame that it took last, or zeros.
     pub fn bytes(&self) -> [u8; 12]
         ensures { result ≡ self.now.bytes }
     {
         self.bytes
     }
 
+    // Whether the next pull is taken.
     pub fn is_armed(&self) -> bool
         ensures { result ≡ is_armed self.now.state }
     {
-        matches!(self.state, BoxState::Armed)
+        self.state == BoxState::Armed
     }
 
     // Arms the box; its bytes stay until a pull is taken.
@@ -49,6 +52,8 @@ impl BlackBox {
     }
 
     // The box rule: an armed box takes the frame of a station that pulls, and is armed no more.
+    // The project has the rule as one match of the state with what the station does. So a test and no Option of the frame: only the arm that
+    // changes the box looks at the frame.
     pub fn note(&mut self, pulling: bool, frame: Frame)
         ensures { self.new ≡ noted self.old pulling frame.bytes }
     {
@@ -59,7 +64,7 @@ impl BlackBox {
                     bytes: frame.bytes(),
                 };
             }
-            (BoxState::Armed, false) | (BoxState::Taken, true) | (BoxState::Taken, false) => {}
+            (BoxState::Armed, false) | (BoxState::Taken, _) => {}
         }
     }
 }

@@ -7,7 +7,8 @@ use crate::boxes::BlackBox;
 use crate::frames::Frame;
 use smbus::Address;
 
-#[derive(Clone, Copy)]
+// The station's address, its alert record, mask, current frame and black box.
+#[derive(Clone, Copy, PartialEq, Eq, Debug)]
 pub struct Entry {
     address: Address,
     alert: AlertRecord,

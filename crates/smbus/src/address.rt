@@ -1,5 +1,5 @@
 // The 7-bit address of a device.
-ghost use Rattle.std.specs.Prelude.{◌≡◌, MatchResult};
+ghost use Rattle.std.specs.Prelude.{◌≡◌};
 ghost use Rattle.smbus.specs.Address.{Lawful, write_byte, read_byte};
 
 use crate::refusal::AddressRefusal;
@@ -12,21 +12,14 @@ pub struct Address {
 }
 
 impl Address {
+    // The lowest lawful address.
     const LOWEST: u8 = 0x08;
 
+    // The highest lawful address.
     const HIGHEST: u8 = 0x77;
 
+    // The address between them that no device has: a host reads it to ask who pulls the alert line.
     const ALERT_RESPONSE: u8 = 0x0c;
-
-    // The address that the byte is, exactly where it is a lawful one.
-    pub fn new(byte: u8) -> Result<Address, AddressRefusal>
-        ensures { MatchResult result (λ a. (a.byte ≡ byte) × Lawful byte) (λ e. (e ≡ AddressRefusal.Unlawful) × (Lawful byte → ⊥)) }
-    {
-        if byte < Address::LOWEST || byte > Address::HIGHEST || byte == Address::ALERT_RESPONSE {
-            return Err(AddressRefusal::Unlawful);
-        }
-        Ok(Address { byte })
-    }
 
     // The address itself, seven bits.
     pub fn byte(self) -> u8
@@ -48,5 +41,23 @@ impl Address {
         ensures { result ≡ read_byte self.byte }
     {
         self.write_byte() + 1
+    }
+}
+
+// A byte is an address exactly where it is a lawful one.
+impl TryFrom<u8> for Address {
+    ghost use Rattle.smbus.specs.Acceptance.{Accepts};
+
+    type Error = AddressRefusal;
+
+    ghost try_from_gives = { Accepts };
+
+    fn try_from(byte: u8) -> Result<Address, AddressRefusal> {
+        match byte {
+            Address::LOWEST..=Address::HIGHEST if byte != Address::ALERT_RESPONSE => {
+                Ok(Address { byte })
+            }
+            _ => Err(AddressRefusal::Unlawful),
+        }
     }
 }

@@ -1,4 +1,5 @@
-// The packet error code of a message.
+// The packet error code of a message. The calls that answer a code state its value and its two laws in full, since one name for the
+// three would hide from their callers what is promised.
 ghost use Rattle.std.specs.Prelude.{◌≡◌, ℕ, true, ◌↔◌, List, [], ◌∷◌, ◌++◌, ◌≢◌};
 ghost use Rattle.smbus.specs.PacketErrorCode.{EndsInCode, OneByteChanged, code_from, code_of, read_message, write_message};
 
@@ -47,13 +48,6 @@ pub fn read_code(address: Address, written: &[u8], reply: &[u8]) -> u8
 pub fn ends_in_code(packet: &[u8]) -> bool
     ensures test { (result ≡ true) ↔ EndsInCode packet.now }
     ensures caught { (changed : List ℕ) → OneByteChanged packet.now changed → result ≡ true → EndsInCode changed → ⊥ }
-{
-    last_is_code(packet)
-}
-
-// The test of `ends_in_code`.
-fn last_is_code(packet: &[u8]) -> bool
-    ensures { (result ≡ true) ↔ EndsInCode packet.now }
 {
     let [front @ .., last] = packet else {
         return false;

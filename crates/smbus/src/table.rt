@@ -27,14 +27,5 @@ pub fn byte_step(running: u8, byte: u8) -> u8
     ensures value { result ≡ byte_step running byte }
     ensures joined { (start : ℕ) (front rest : List ℕ) → code_from start front ≡ running → code_from start (front ++ byte ∷ rest) ≡ code_from result rest }
 {
-    looked_up(&TABLE, running, byte)
-}
-
-// The same by any table of what eight bits make of each remainder.
-fn looked_up(table: &[u8; 256], running: u8, byte: u8) -> u8
-    requires { table.now ≡ remainders }
-    ensures value { result ≡ byte_step running byte }
-    ensures joined { (start : ℕ) (front rest : List ℕ) → code_from start front ≡ running → code_from start (front ++ byte ∷ rest) ≡ code_from result rest }
-{
-    table[(running ^ byte) as usize]
+    TABLE[usize::from(running ^ byte)]
 }

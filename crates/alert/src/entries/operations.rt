@@ -2,7 +2,7 @@
 ghost use Rattle.std.specs.Prelude.{◌≡◌};
 ghost use Rattle.alert.specs.Alerts.{AfterAnswer, AfterClear, AfterRaise};
 ghost use Rattle.alert.specs.Boxes.{armed_again, noted};
-ghost use Rattle.alert.specs.Entries.{AsBuilt, Boxed, pulls, with_alert, with_box, with_frame, with_mask};
+ghost use Rattle.alert.specs.Entries.{AsBuilt, pulls, with_alert, with_box, with_frame, with_mask};
 
 use crate::alerts::AlertRecord;
 use crate::boxes::BlackBox;
@@ -21,14 +21,15 @@ impl Entry {
         ensures built { AsBuilt result }
     {
         let alert = AlertRecord::new(first);
-        let entry = Entry {
+        let mut entry = Entry {
             address,
             alert,
             mask,
             frame,
             blackbox: BlackBox::new(),
         };
-        entry.after_box_rule()
+        entry.apply_box_rule();
+        entry
     }
 
     // Latches each condition of the set.
@@ -56,6 +57,7 @@ impl Entry {
         self.blackbox.arm();
     }
 
+    // Makes a word the mask.
     pub fn write_mask(&mut self, word: u16)
         ensures { self.new ≡ with_mask self.old word }
     {
@@ -75,13 +77,5 @@ impl Entry {
     {
         let pulling = self.pulls();
         self.blackbox.note(pulling, self.frame);
-    }
-    // The entry after the box rule, by value.
-    fn after_box_rule(mut self) -> Entry
-        ensures rest { result ≡ with_box self result.blackbox }
-        ensures boxed { Boxed self.blackbox result }
-    {
-        self.apply_box_rule();
-        self
     }
 }

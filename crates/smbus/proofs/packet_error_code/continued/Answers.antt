@@ -4,10 +4,6 @@ use Rattle.smbus.specs.PacketErrorCode.{code_from}
 use Rattle.smbus.proofs.Codes.{code_caught, code_joined, code_zero}
 use Rattle.smbus.proofs.packet_error_code.continued.Goals as goal
 use Rattle.std.proofs.lemmas.List.{take_all}
-use Rattle.std.proofs.lemmas.List.Sums.{fold_more}
-
-pub loop-byte-preserved : goal.loop-byte-preserved
-loop-byte-preserved c = grind (arith, fold_more)
 
 pub returns : goal.returns
 returns c =
