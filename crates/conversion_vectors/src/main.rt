@@ -3,14 +3,17 @@
 
 mod requests;
 
+use requests::{Answer, Request};
 use std::io;
 use std::io::{BufRead, BufReader, Read};
 
-// How many bytes of standard input are read.
-const LIMIT: u64 = 60_000;
+// The most bytes of standard input that are read; what follows them is left unread.
+const MOST_BYTES: u64 = 60_000;
 
+// Answers each line of standard input with one line of standard output.
+// The two readers of vectors have this loop in common: to share it would take a crate of its own.
 fn main(rt: HostRuntime) -> io::Result<()> {
-    let input = BufReader::new(rt.alloc(), rt.stdin().take(LIMIT))?;
+    let input = BufReader::new(rt.alloc(), rt.stdin().take(MOST_BYTES))?;
     for line in input.lines(rt.alloc()) {
         answer(&rt, line?.as_str())?;
     }
@@ -19,13 +22,13 @@ fn main(rt: HostRuntime) -> io::Result<()> {
 
 // Prints the value in decimal, the word in hexadecimal, or the refusal's number.
 fn answer(rt: &HostRuntime, line: &str) -> io::Result<()> {
-    let Some(request) = requests::read_request(line) else {
+    let Ok(request) = line.parse::<Request>() else {
         return println!(rt; "not a request");
     };
     match request.answer() {
-        requests::Answer::Value(value) => println!(rt; "{value}"),
-        requests::Answer::Word(word) => println!(rt; "{word:04X}"),
-        requests::Answer::Refused(refusal) => {
+        Ok(Answer::Value(value)) => println!(rt; "{value}"),
+        Ok(Answer::Word(word)) => println!(rt; "{word:04X}"),
+        Err(refusal) => {
             let number = refusal.number();
             println!(rt; "refused {number}")
         }

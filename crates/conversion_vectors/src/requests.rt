@@ -1,17 +1,21 @@
 // A request for a conversion, read from the words of a line:
 //   value KIND QUANTITY CL RESISTOR WORD     the value of a word of four hexadecimal digits
 //   word KIND QUANTITY CL RESISTOR VALUE     the word of a value in µV, µA, µ°C or mW
-ghost use Rattle.std.specs.Prelude.{◌≡◌};
+ghost use Rattle.std.specs.Prelude.{◌≡◌, IfOk, IfSome};
 ghost use Rattle.conversion_vectors.specs.Answers.{answered};
+ghost use Rattle.conversion_vectors.specs.Requests.{words_of, AsksIn, Asks};
 
 use direct::{Card, ConversionRefusal, CurrentLimit, Kind, Quantity};
+use std::str::FromStr;
 
+// What is asked for: the value of a word, or the word of a value.
 #[derive(Clone, Copy)]
 pub enum Asked {
     ValueOf(u16),
     WordOf(i64),
 }
 
+// A conversion that is asked for, of a quantity on a card.
 #[derive(Clone, Copy)]
 pub struct Request {
     pub card: Card,
@@ -19,38 +23,50 @@ pub struct Request {
     pub asked: Asked,
 }
 
+// What a conversion gives.
 #[derive(Clone, Copy)]
 pub enum Answer {
     Value(i64),
     Word(u16),
-    Refused(ConversionRefusal),
 }
 
 impl Request {
     // Makes the conversion.
-    pub fn answer(self) -> Answer
+    pub fn answer(self) -> Result<Answer, ConversionRefusal>
         ensures { result ≡ answered self }
     {
         match self.asked {
-            Asked::ValueOf(word) => match direct::value_of(&self.card, self.quantity, word) {
-                Ok(value) => Answer::Value(value),
-                Err(refusal) => Answer::Refused(refusal),
-            },
-            Asked::WordOf(value) => match direct::word_of(&self.card, self.quantity, value) {
-                Ok(word) => Answer::Word(word),
-                Err(refusal) => Answer::Refused(refusal),
-            },
+            Asked::ValueOf(word) => { Ok(Answer::Value(self.card.value_of(self.quantity, word)?)) }
+            Asked::WordOf(value) => { Ok(Answer::Word(self.card.word_of(self.quantity, value)?)) }
         }
     }
 }
 
-// The request of a line, if it is one.
-pub fn read_request(line: &str) -> Option<Request> {
+// A line that asks for no conversion.
+#[derive(Clone, Copy)]
+pub struct NotARequest;
+
+// The request that the line asks for.
+impl FromStr for Request {
+    type Err = NotARequest;
+
+    ghost from_str_gives = { λ line r. IfOk r (Asks (words_of line)) };
+
+    fn from_str(line: &str) -> Result<Request, NotARequest> {
+        request_of(line).ok_or(NotARequest)
+    }
+}
+
+// The request of a line, if it is one; words after the sixth are not looked at.
+// Apart from from_str, so that ? can end it.
+fn request_of(line: &str) -> Option<Request>
+    ensures { IfSome result (Asks (words_of line.now)) }
+{
     let mut words = line.split(' ');
     let form = words.next()?;
-    let kind = kind(words.next()?)?;
-    let quantity = quantity(words.next()?)?;
-    let current_limit = current_limit(words.next()?)?;
+    let kind = words.next()?.parse::<Kind>().ok()?;
+    let quantity = words.next()?.parse::<Quantity>().ok()?;
+    let current_limit = words.next()?.parse::<CurrentLimit>().ok()?;
     let resistor = words.next()?.parse::<u32>().ok()?;
     let asked = read_asked(form, words.next()?)?;
     let card = Card {
@@ -65,39 +81,13 @@ pub fn read_request(line: &str) -> Option<Request> {
     })
 }
 
-fn read_asked(form: &str, number: &str) -> Option<Asked> {
+// What is asked for in that form, of the number written in it.
+fn read_asked(form: &str, number: &str) -> Option<Asked>
+    ensures { IfSome result (AsksIn form.now number.now) }
+{
     match form {
         "value" => Some(Asked::ValueOf(u16::from_str_radix(number, 16).ok()?)),
         "word" => Some(Asked::WordOf(number.parse::<i64>().ok()?)),
-        _ => None,
-    }
-}
-
-fn kind(word: &str) -> Option<Kind> {
-    match word {
-        "LM25066" => Some(Kind::Lm25066),
-        "LM5064" => Some(Kind::Lm5064),
-        "LM5056" => Some(Kind::Lm5056),
-        _ => None,
-    }
-}
-
-fn quantity(word: &str) -> Option<Quantity> {
-    match word {
-        "VIN" => Some(Quantity::Vin),
-        "VOUT" => Some(Quantity::Vout),
-        "VAUX" => Some(Quantity::Vaux),
-        "IIN" => Some(Quantity::Iin),
-        "PIN" => Some(Quantity::Pin),
-        "TEMPERATURE" => Some(Quantity::Temperature),
-        _ => None,
-    }
-}
-
-fn current_limit(word: &str) -> Option<CurrentLimit> {
-    match word {
-        "VDD" => Some(CurrentLimit::Vdd),
-        "GND" => Some(CurrentLimit::Ground),
         _ => None,
     }
 }

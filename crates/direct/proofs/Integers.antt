@@ -1,8 +1,8 @@
 -- Laws of the integers' product with a natural number, its order, and the absolute value.
 -- Assumes nothing.
-use Rattle.std.proofs.Common.{◌≡◌, ℕ, zero, suc, ◌+◌, ◌*◌, ◌^◌, ◌<◌, ◌≤◌, ◌⊎◌, ℤ, pos, negsuc, ◌+ℤ◌, ◌-ℤ◌, ◌*ℤ◌, neg_ℤ, nat_abs, ◌≤ℤ◌, ◌<ℤ◌, sym, refl, ap, ◌∙◌, subst, inl, inr, ⊎_elim, mul-le-mul_right, mul_assoc, suc-mul, mul_comm, zero-mul, arith, w64, SFits, to_z, of_z}
+use Rattle.std.proofs.Common.{◌≡◌, ℕ, zero, suc, ◌+◌, ◌*◌, ◌^◌, ◌<◌, ◌≤◌, ◌⊎◌, ℤ, pos, negsuc, ◌+ℤ◌, ◌-ℤ◌, ◌*ℤ◌, neg_ℤ, nat_abs, ◌≤ℤ◌, ◌<ℤ◌, sym, refl, ap, ◌∙◌, inl, inr, ⊎_elim, mul-le-mul_right, mul_assoc, suc-mul, mul_comm, zero-mul, arith, w64, SFits, to_z, of_z}
 use lib.IntN.{suc_ℤ, pred_ℤ, ℤ_ind, +ℤ_idr, +ℤ_one, -ℤ_one, +ℤ-suc_ℤ, +ℤ-pred_ℤ, +ℤ_invr, suc_ℤ-*ℤ, pred_ℤ-*ℤ, zero-*ℤ}
-use Rattle.std.proofs.lemmas.Int.{ints, to_z-of_z}
+use Rattle.std.proofs.lemmas.Int.{ints, to_z-of_z, to_z_pos, unsigned_abs-mul, fits_signed_from_abs}
 
 -- the product with a product
 pub times_times : (a : ℤ) (k d : ℕ) → (a *ℤ pos k) *ℤ pos d ≡ a *ℤ pos (k * d)
@@ -48,42 +48,17 @@ abs_neg (pos zero) = refl
 abs_neg (pos (suc n)) = refl
 abs_neg (negsuc n) = refl
 
--- a number whose absolute value is below 2^63 fits 64 bits
-pub fits_from_abs : (z : ℤ) → nat_abs z < 9223372036854775808 → SFits w64 z
-fits_from_abs (pos n) f = record { sfits = f }
-fits_from_abs (negsuc n) f = record { sfits = omega arith }
-
--- the absolute value of a product with a natural number
-pub abs_times : (b : ℤ) (v : ℕ) → nat_abs (b *ℤ pos v) ≡ nat_abs b * v
-abs_times (pos b) v = refl
-abs_times (negsuc b) v = negated (suc b * v)
-  where
-    negated : (m : ℕ) → nat_abs (neg_ℤ (pos m)) ≡ m
-    negated zero = refl
-    negated (suc m) = refl
-
--- a negative as the code makes it
-pub negative_read : (z : ℤ) → nat_abs z < 2 ^ 60 → to_z w64 (of_z w64 (pos 0 -ℤ to_z w64 (of_z w64 z))) ≡ neg_ℤ z
-negative_read z h =
-    let e = to_z-of_z w64 z (fits_from_abs z (omega arith)) in
-    let n : pos 0 -ℤ z ≡ neg_ℤ z = omega (arith, ints) in
-    ap (λ (y : ℤ). to_z w64 (of_z w64 (pos 0 -ℤ y))) e ∙ ap (λ (y : ℤ). to_z w64 (of_z w64 y)) n ∙
-    to_z-of_z w64 (neg_ℤ z) (fits_from_abs (neg_ℤ z) (omega (arith, abs_neg z)))
-
--- number × factor + shift as the code adds it, each part having gone through its 64 bits: it is small, and is that sum
-module _ (number shift product : ℤ) (factor : ℕ) (is : product ≡ number *ℤ pos factor) (f : SFits w64 shift) (g : SFits w64 product)
-    (h : nat_abs number * factor < 2 ^ 60) (k : nat_abs shift < 2 ^ 60) where
-  sum_read : to_z w64 (of_z w64 product) +ℤ to_z w64 (of_z w64 shift) ≡ (number *ℤ pos factor) +ℤ shift
-  sum_read = let p = to_z-of_z w64 product g in let s = to_z-of_z w64 shift f in cc
-
-  pub sum_small : nat_abs ((number *ℤ pos factor) +ℤ shift) < 2 ^ 61
-  sum_small = omega (arith, abs_sum (number *ℤ pos factor) shift, abs_times number factor)
-
-  pub sum_fits : SFits w64 (to_z w64 (of_z w64 product) +ℤ to_z w64 (of_z w64 shift))
-  sum_fits = subst (λ (z : ℤ). SFits w64 z) (sym sum_read) (fits_from_abs _ (omega (arith, sum_small)))
-
-  pub sum_is : to_z w64 (of_z w64 (to_z w64 (of_z w64 product) +ℤ to_z w64 (of_z w64 shift))) ≡ (number *ℤ pos factor) +ℤ shift
-  sum_is = to_z-of_z w64 _ sum_fits ∙ sum_read
+-- number × factor + shift as the code reckons it, each part having gone through its 64 bits, is that sum
+pub sum_read : (number shift read : ℤ) (factor : ℕ) → SFits w64 number → read ≡ shift → factor < 2 ^ 60 → nat_abs number * factor < 2 ^ 60 → nat_abs shift < 2 ^ 60 →
+    to_z w64 (of_z w64 (to_z w64 (of_z w64 (to_z w64 (of_z w64 number) *ℤ to_z w64 factor)) +ℤ read)) ≡ (number *ℤ pos factor) +ℤ shift
+sum_read number shift read factor fits is factor_small product_small shift_small =
+    let n = to_z-of_z w64 number fits in
+    let f = to_z_pos w64 factor (omega arith) in
+    let parts : to_z w64 (of_z w64 number) *ℤ to_z w64 factor ≡ number *ℤ pos factor = cc in
+    let product : to_z w64 (of_z w64 (to_z w64 (of_z w64 number) *ℤ to_z w64 factor)) ≡ number *ℤ pos factor =
+    ap (λ (z : ℤ). to_z w64 (of_z w64 z)) parts ∙ to_z-of_z w64 (number *ℤ pos factor) (fits_signed_from_abs w64 _ (omega (arith, unsigned_abs-mul number (pos factor)))) in
+    let sum : to_z w64 (of_z w64 (to_z w64 (of_z w64 number) *ℤ to_z w64 factor)) +ℤ read ≡ (number *ℤ pos factor) +ℤ shift = cc in
+    ap (λ (z : ℤ). to_z w64 (of_z w64 z)) sum ∙ to_z-of_z w64 _ (fits_signed_from_abs w64 _ (omega (arith, abs_sum (number *ℤ pos factor) shift, unsigned_abs-mul number (pos factor))))
 
 -- the product of a sum, and of a negative
 pub sum_times : (a b : ℤ) (d : ℕ) → (a +ℤ b) *ℤ pos d ≡ (a *ℤ pos d) +ℤ (b *ℤ pos d)

@@ -1,9 +1,10 @@
 -- The line of a card gives the defined conversions, and every lawful word comes back as itself.
 -- Assumes nothing.
-use Rattle.std.proofs.Common.{◌≡◌, ℕ, ◌*◌, ◌^◌, ◌<◌, ◌≤◌, Bool, true, false, cond, ◌&&◌, T, ℤ, pos, negsuc, ◌+ℤ◌, ◌-ℤ◌, ◌*ℤ◌, neg_ℤ, nat_abs, ◌≤ℤ◌, Ok, Err, Result, sym, refl, ap, ◌∙◌, subst, le_refl, mul_comm, arith, w16, SFits, of_z}
+use Rattle.std.proofs.Common.{◌≡◌, ℕ, ◌*◌, ◌^◌, ◌<◌, ◌≤◌, Bool, true, false, cond, ◌&&◌, T, ℤ, pos, negsuc, ◌+ℤ◌, ◌-ℤ◌, ◌*ℤ◌, neg_ℤ, nat_abs, ◌≤ℤ◌, Ok, Err, sym, refl, ap, ◌∙◌, subst, le_refl, mul_comm, arith, w16, SFits, of_z}
 use lib.Signed.{le_z, le_z_yes}
 use Rattle.std.proofs.lemmas.Nat.{mul-le}
-use Rattle.std.proofs.lemmas.Int.{ints, by_lt_z, of_z-to_z}
+use Rattle.std.proofs.lemmas.Bool.{and_from, and_parts}
+use Rattle.std.proofs.lemmas.Int.{ints, by_lt_z, of_z-to_z, unsigned_abs-mul}
 use Rattle.direct.specs.Conversions.{unit, sense, scale, on, least, in_range, askable, resistor_lawful, value_divisor, word_divisor, exact_value, exact_word, word_number, value_answer, word_answer}
 use Rattle.direct.specs.Lines.{LineOf}
 use Rattle.direct.specs.Nearest.{rounded}
@@ -11,10 +12,9 @@ use Rattle.direct.specs.declared.cards.Card.{Card}
 use Rattle.direct.specs.declared.lines.Line.{Line}
 use Rattle.direct.specs.declared.quantities.Quantity.{Quantity}
 use Rattle.direct.specs.declared.quantities.Quantity.TheVariants.{Vin, Vout, Vaux, Iin, Pin, Temperature}
-use Rattle.direct.specs.declared.refusals.ConversionRefusal.{ConversionRefusal}
 use Rattle.direct.specs.declared.refusals.ConversionRefusal.TheVariants.{Word, Resistor, Value}
-use Rattle.direct.proofs.Integers.{times_times, times_less, sum_times, neg_times, abs_times, abs_sum, abs_neg, abs_above, abs_below}
-use Rattle.direct.proofs.LineBounds.{line_made}
+use Rattle.direct.proofs.Integers.{times_times, times_less, sum_times, neg_times, abs_sum, abs_neg, abs_above, abs_below}
+use Rattle.direct.proofs.LineBounds.{line_on}
 use Rattle.direct.proofs.Rounding.{WithinHalf, rounded_within, within_one}
 
 -- (y × t - b) × v is y × (v × t) - b × v
@@ -71,10 +71,6 @@ word_found card q x b e f =
     ap (λ (d : Bool). cond d (cond (askable x && in_range q (exact_word card q x)) (Ok (of_z w16 (exact_word card q x))) (Err Value)) (Err Resistor)) e ∙
     ap (λ (d : Bool). cond d (Ok (of_z w16 (exact_word card q x))) (Err Value)) f
 
-both : (a b : Bool) → (a && b) ≡ true → (a ≡ true) × (b ≡ true)
-both true b h = (refl, h)
-both false b h = let z : ◌≡◌ {A = ℕ} 0 1 = cc in absurd (omega arith)
-
 at_most : (a b : ℤ) → le_z a b ≡ true → a ≤ℤ b
 at_most a b e = record { le = subst T (sym e) tt }
 
@@ -93,13 +89,10 @@ least_above Iin = le_z_yes tt
 least_above Pin = le_z_yes tt
 least_above Temperature = le_z_yes tt
 
-pub and_true : (a b : Bool) → a ≡ true → b ≡ true → (a && b) ≡ true
-and_true a b e f = ap (λ (d : Bool). d && b) e ∙ f
-
 -- a number in range is small, and fits 16 bits
 pub in_range_small : (q : Quantity) (y : ℤ) → in_range q y ≡ true → (nat_abs y ≤ 4096) × SFits w16 y
 in_range_small q y h =
-    let parts = both (le_z (least q) y) (le_z y (pos 4095)) h in
+    let parts = and_parts (le_z (least q) y) (le_z y (pos 4095)) h in
     small y (omega (arith, ints, at_most (least q) y parts.0, least_above q)) (at_most y (pos 4095) parts.1)
   where
     small : (z : ℤ) → negsuc 4095 ≤ℤ z → z ≤ℤ pos 4095 → (nat_abs z ≤ 4096) × SFits w16 z
@@ -110,12 +103,12 @@ in_range_small q y h =
 pub value_back : (card : Card) (q : Quantity) (l : Line) → LineOf card q l → (y : ℤ) → in_range q y ≡ true →
     (askable (exact_value card q y) ≡ true) × (exact_word card q (exact_value card q y) ≡ y)
 value_back card q l is y h =
-    let bounds = is.bounded in
+    let bounds = l.bounded in
     let size : nat_abs ((y *ℤ pos l.step) -ℤ l.offset) ≤ 4000000000 * l.slope =
-    omega (arith, abs_sum (y *ℤ pos l.step) (neg_ℤ l.offset), abs_times y l.step, abs_neg l.offset, mul-le (nat_abs y) l.step 4096 l.step (in_range_small q y h).0 (le_refl l.step), bounds.near) in
+    omega (arith, abs_sum (y *ℤ pos l.step) (neg_ℤ l.offset), unsigned_abs-mul y (pos l.step), abs_neg l.offset, mul-le (nat_abs y) l.step 4096 l.step (in_range_small q y h).0 (le_refl l.step), bounds.near) in
     let between = rounded_between ((y *ℤ pos l.step) -ℤ l.offset) l.slope 4000000000 bounds.rises size in
     let value = line_value card q l is y in (
-      subst (λ (x : ℤ). askable x ≡ true) value (and_true _ _ (at_most_true _ _ between.0) (at_most_true _ _ between.1)),
+      subst (λ (x : ℤ). askable x ≡ true) value (and_from _ _ (at_most_true _ _ between.0) (at_most_true _ _ between.1)),
       ap (exact_word card q) (sym value) ∙ sym (line_number card q l is _) ∙ comes_back l.slope l.step l.offset y bounds.rises bounds.coarse,
     )
 
@@ -123,21 +116,13 @@ value_back card q l is y h =
 pub word_back : (card : Card) (q : Quantity) (w : ℕ) (v : ℤ) → w < 2 ^ 16 → value_answer card q w ≡ Ok v → word_answer card q v ≡ Ok w
 word_back card q w v fits h =
     let found = parts (in_range q (word_number w)) (resistor_lawful card q) (exact_value card q (word_number w)) h in
-    let l : Line = record { slope = value_divisor (on card q) (sense card q); offset = (on card q).b *ℤ pos (unit q * 1000); step = word_divisor q (on card q) } in
-    let back = value_back card q l (line_made card q found.1 l refl refl refl) (word_number w) found.0 in
+    let back = value_back card q (line_on card q found.1) (record { slope_is = refl; offset_is = refl; step_is = refl }) (word_number w) found.0 in
     let number : exact_word card q v ≡ word_number w = ap (exact_word card q) (sym found.2) ∙ back.1 in
     let asked : askable v ≡ true = subst (λ (x : ℤ). askable x ≡ true) found.2 back.0 in
     let range : in_range q (exact_word card q v) ≡ true = ap (in_range q) number ∙ found.0 in
-    word_found card q v true found.1 (and_true _ _ asked range) ∙ ap (λ (z : ℤ). Ok (of_z w16 z)) number ∙ ap (λ (n : ℕ). Ok n) (of_z-to_z w16 w fits)
+    word_found card q v true found.1 (and_from _ _ asked range) ∙ ap (λ (z : ℤ). Ok (of_z w16 z)) number ∙ ap (λ (n : ℕ). Ok n) (of_z-to_z w16 w fits)
   where
     parts : (a b : Bool) (x : ℤ) → cond a (cond b (Ok x) (Err Resistor)) (Err Word) ≡ Ok v → (a ≡ true) × (b ≡ true) × (x ≡ v)
     parts true true x e = (refl, refl, cc)
     parts true false x e = let z : ◌≡◌ {A = ℕ} 0 1 = cc in absurd (omega arith)
     parts false b x e = let z : ◌≡◌ {A = ℕ} 0 1 = cc in absurd (omega arith)
-
--- so that value is not refused
-pub not_refused : (card : Card) (q : Quantity) (w : ℕ) (v x : ℤ) (e : ConversionRefusal) → w < 2 ^ 16 → value_answer card q w ≡ Ok v → x ≡ v → Err e ≡ word_answer card q x → ⊥
-not_refused card q w v x e fits h is refused = apart (refused ∙ ap (word_answer card q) is ∙ word_back card q w v fits h)
-  where
-    apart : ◌≡◌ {A = Result ℕ ConversionRefusal} (Err e) (Ok w) → ⊥
-    apart f = let z : ◌≡◌ {A = ℕ} 0 1 = cc in omega arith

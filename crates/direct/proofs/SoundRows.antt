@@ -1,7 +1,7 @@
 -- Every record of the tables is sound: one test, computed over all kinds, quantities and CL settings.
 -- Assumes nothing.
-use Rattle.std.proofs.Common.{◌≡◌, ℕ, ◌+◌, ◌*◌, Bool, true, false, ◌&&◌, T, ltb, leb, get_or, pos, nat_abs, sym, ap, ◌∙◌, subst, ltb→lt, leb→le}
-use Rattle.direct.specs.Coefficients.{rows_of, row_of, coefficients_of, coefficients_record}
+use Rattle.std.proofs.Common.{◌+◌, ◌*◌, Bool, true, false, ◌&&◌, T, ltb, leb, nat_abs, ltb→lt, leb→le}
+use Rattle.direct.specs.Coefficients.{rows_of, coefficients_of}
 use Rattle.direct.specs.Conversions.{unit, scale}
 use Rattle.direct.specs.Sound.{Sound, least_sense, greatest_sense}
 use Rattle.direct.specs.declared.cards.Kind.{Kind}
@@ -81,10 +81,3 @@ pub sound_rows : (k : Kind) (q : Quantity) (c : CurrentLimit) → Sound q (coeff
 sound_rows k q c =
     from_test q (coefficients_of k q c)
     (at_setting (tested k q) (at_quantity (λ p. every_setting (tested k p)) (at_kind (λ j. every_quantity (λ p. every_setting (tested j p))) all_tested k) q) c)
-
--- the record that the code reads from a kind's table is the defined one, and sound
-pub record_read : (k k' : Kind) (q : Quantity) (c : CurrentLimit) (i : ℕ) → k' ≡ k → i ≡ row_of q c →
-    (get_or (rows_of k) i (coefficients_record 0 (pos 0) (pos 0)) ≡ coefficients_of k' q c) × Sound q (get_or (rows_of k) i (coefficients_record 0 (pos 0) (pos 0)))
-record_read k k' q c i e h =
-    let v = ap (λ (j : ℕ). get_or (rows_of k) j (coefficients_record 0 (pos 0) (pos 0))) h ∙ ap (λ (j : Kind). coefficients_of j q c) (sym e) in
-    (v, subst (λ (x : Coefficients). Sound q x) (sym v) (sound_rows k' q c))

@@ -1,6 +1,8 @@
+pub mod Bounds
 pub mod Coefficients
 pub mod Conversions
 pub mod Nearest
+pub mod Names
 pub mod Refusals
 pub mod Registers
 pub mod Sound

@@ -5,11 +5,13 @@
 mod cards;
 mod conversions;
 mod lines;
+mod names;
 mod quantities;
 mod refusals;
 mod tables;
 
 pub use cards::{Card, CurrentLimit, Kind};
-pub use conversions::{ReadBack, read_back, value_of, word_of};
+pub use conversions::ReadBack;
+pub use names::UnknownName;
 pub use quantities::{LimitRegister, Quantity};
 pub use refusals::ConversionRefusal;

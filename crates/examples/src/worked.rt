@@ -19,13 +19,14 @@ pub struct WorkedExamples {
     pub temperature: Result<i64, ConversionRefusal>,
 }
 
+// The card of the examples: an LM5056 with CL at VDD and 1 mΩ.
 const CARD: Card = Card {
     kind: Kind::Lm5056,
     current_limit: CurrentLimit::Vdd,
     resistor: 1000,
 };
 
-// Makes the call of each example.
+// Makes the call of each example. Apart from the table, so that a wrong call is refused here.
 fn answers() -> WorkedExamples
     ensures no_bytes { result.code_of_no_bytes ≡ code_of [] }
     ensures clear { result.code_of_clear ≡ code_of (0x20 ∷ 0x03 ∷ []) }
@@ -36,9 +37,9 @@ fn answers() -> WorkedExamples
     WorkedExamples {
         code_of_no_bytes: smbus::code(&[]),
         code_of_clear: smbus::code(&[0x20, 0x03]),
-        vin: direct::value_of(&CARD, Quantity::Vin, 0x0890),
-        iin_of_zero: direct::value_of(&CARD, Quantity::Iin, 0x0000),
-        temperature: direct::value_of(&CARD, Quantity::Temperature, 0xFFF0),
+        vin: CARD.value_of(Quantity::Vin, 0x0890),
+        iin_of_zero: CARD.value_of(Quantity::Iin, 0x0000),
+        temperature: CARD.value_of(Quantity::Temperature, 0xFFF0),
     }
 }
 

@@ -4,11 +4,11 @@ use Rattle.direct.specs.Conversions.{in_range, word_number, on, sense, value_num
 use Rattle.direct.specs.Nearest.{Nearest, rounded}
 use Rattle.direct.proofs.RoundTrip.{line_value, value_found}
 use Rattle.direct.proofs.Rounding.{rounded_nearest}
-use Rattle.direct.proofs.conversions.value_of.Goals as goal
+use Rattle.direct.proofs.cards.Card.value_of.Goals as goal
 
 pub returns : goal.returns
 returns c =
-    let card = c.args.card.now in
+    let card = c.args.self.now in
     let q = c.args.quantity in
     let line = c.in_ok-line.line in
     let lawful = c.in_ok-line.ensures.0 in
@@ -24,5 +24,5 @@ returns c =
       answer = ap (λ (x : ℤ). Ok x) value ∙ sym (value_found card q c.args.word range lawful);
       nearest =
           subst (λ (x : ℤ). Nearest (value_numerator q (on card q) (word_number c.args.word)) (value_divisor (on card q) (sense card q)) x) (sym value)
-          (rounded_nearest (value_numerator q (on card q) (word_number c.args.word)) (value_divisor (on card q) (sense card q)) (subst (λ (n : ℕ). 0 < n) is.slope_is is.bounded.rises));
+          (rounded_nearest (value_numerator q (on card q) (word_number c.args.word)) (value_divisor (on card q) (sense card q)) (subst (λ (n : ℕ). 0 < n) is.slope_is line.bounded.rises));
     }
