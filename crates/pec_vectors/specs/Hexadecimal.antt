@@ -1,13 +1,12 @@
 -- How bytes are spelled in upper-case hexadecimal.
 -- Assumes nothing.
-use Rattle.std.specs.Prelude.{◌≡◌, ℕ, ◌<◌, List, [], ◌∷◌, ◌++◌}
-use Rattle.std.specs.List.{AllByRecursion}
+use Rattle.std.specs.Prelude.{◌≡◌, ℕ, ◌<◌, List}
+use Rattle.std.specs.List.{AllByRecursion, flat_map}
 use Rattle.text.specs.Writing.{hex_text}
 
 -- a message is spelled byte after byte
 abbrev pub spelled : List ℕ → List ℕ
-spelled [] = []
-spelled (b ∷ bytes) = hex_text b ++ spelled bytes
+spelled bytes = flat_map hex_text bytes
 
 -- the line spells some bytes
 abbrev pub Hexadecimal : List ℕ → Type 0

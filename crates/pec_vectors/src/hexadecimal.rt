@@ -10,17 +10,14 @@ pub fn message(heap: Global, line: &[u8]) -> Result<Option<Vec<u8>>, AllocError>
     ensures { IfOk result (λ o. MatchOption o (Hexadecimal line.now → ⊥) (λ v. line.now ≡ spelled v.items)) }
 {
     let mut bytes = Vec::new(heap);
-    let mut rest = line;
-    while let [high, low, tail @ ..] = rest {
-        let Some(next) = hex_byte(*high, *low) else {
+    for pair in line.chunks(2) {
+        let [high, low] = pair else {
             return Ok(None);
         };
-        bytes.push(next)?;
-        rest = tail;
+        let Some(byte) = hex_byte(*high, *low) else {
+            return Ok(None);
+        };
+        bytes.push(byte)?;
     }
-    if rest.is_empty() {
-        Ok(Some(bytes))
-    } else {
-        Ok(None)
-    }
+    Ok(Some(bytes))
 }

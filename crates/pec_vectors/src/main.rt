@@ -6,11 +6,13 @@ mod hexadecimal;
 use std::io;
 use std::io::{BufRead, BufReader, Read};
 
-// How many bytes of standard input are read.
-const LIMIT: u64 = 60_000;
+// The most bytes of standard input that are read; what follows them is left unread.
+const MOST_BYTES: u64 = 60_000;
 
+// Answers each line of standard input with one line of standard output.
+// The two readers of vectors have this loop in common: to share it would take a crate of its own.
 fn main(rt: HostRuntime) -> io::Result<()> {
-    let input = BufReader::new(rt.alloc(), rt.stdin().take(LIMIT))?;
+    let input = BufReader::new(rt.alloc(), rt.stdin().take(MOST_BYTES))?;
     for line in input.lines(rt.alloc()) {
         answer(&rt, line?.as_bytes())?;
     }

@@ -1,4 +1,5 @@
-mod Appending
+mod Comparing
 mod Counting
 mod Reading
 mod Splitting
+pub mod Printing

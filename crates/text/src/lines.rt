@@ -1,6 +1,7 @@
 // The lines of a text.
-ghost use Rattle.std.specs.Prelude.{◌≡◌, ◌<◌, ◌≤◌, length, MatchOption};
-ghost use Rattle.text.specs.Lines.{line_length, Splits};
+ghost use Rattle.std.specs.Prelude.{◌≡◌, ◌^◌, ◌<◌, length, MatchOption};
+ghost use Rattle.std.specs.Iterator.{YieldsFirstBy, item_count};
+ghost use Rattle.text.specs.Lines.{lines_of, Splits};
 
 // The first line of a text, without its end, and what follows that end.
 #[derive(Clone, Copy)]
@@ -9,28 +10,21 @@ pub struct FirstLine<'a> {
     pub rest: &'a [u8],
 }
 
-// How many bytes stand before the first line end, or before the end of the text.
-fn length_of_line(text: &[u8]) -> usize
-    ensures within { result ≤ length text.now }
-    ensures value { result ≡ line_length text.now }
-{
-    let mut n = 0;
-    while n < text.len() && text[n] != b'\n' {
-        n += 1;
-    }
-    n
-}
-
 // The first line of a text that has a byte.
 fn split_line(text: &[u8]) -> FirstLine<'_>
     requires { 0 < length text.now }
     ensures { Splits text.now result.line.now result.rest.now }
 {
-    let n = length_of_line(text);
-    let line = &text[0..n];
-    let next = if n < text.len() { n + 1 } else { n };
-    let rest = &text[next..];
-    FirstLine { line, rest }
+    match text.iter().position(|byte| *byte == b'\n') {
+        Some(end) => FirstLine {
+            line: &text[..end],
+            rest: &text[end + 1..],
+        },
+        None => FirstLine {
+            line: text,
+            rest: &[],
+        },
+    }
 }
 
 // The first line of `text`; none where the text is empty.
@@ -41,5 +35,38 @@ pub fn first_line(text: &[u8]) -> Option<FirstLine<'_>>
         None
     } else {
         Some(split_line(text))
+    }
+}
+
+// The lines of a text that are still to come, the first one first.
+// An own iterator: the library's split gives an empty line after the last line end.
+#[derive(Drop)]
+pub struct Lines<'a> {
+    rest: &'a [u8],
+}
+
+impl<'a> Lines<'a> {
+    // All lines of `text`.
+    #[tactic(auto, using(crate::proofs::Splitting::few_lines))]
+    pub fn new(text: &'a [u8]) -> Lines<'a>
+        ensures all { lines_of result.rest.now ≡ lines_of text.now }
+        ensures few { length (lines_of result.rest.now) < 2 ^ 64 }
+    {
+        Lines { rest: text }
+    }
+}
+
+// Each step takes the first line off the text.
+impl<'a> Iterator for Lines<'a> {
+    type Item = &'a [u8];
+
+    ghost next_gives = { YieldsFirstBy (λ line. line.now) (λ lines. lines_of lines.rest.now) };
+
+    ghost remaining = { item_count (λ lines. lines_of lines.rest.now) };
+
+    fn next(&mut self) -> Option<&'a [u8]> {
+        let first = first_line(self.rest)?;
+        self.rest = first.rest;
+        Some(first.line)
     }
 }

@@ -1,34 +1,30 @@
--- One byte more, and the three ways out.
-use Rattle.std.proofs.Common.{◌≡◌, ℕ, ◌≤◌, List, ◌++◌, length, vec_items, ap, ◌∙◌, subst, append-nil, rules}
-use Rattle.std.proofs.lemmas.List.{nil_from_length}
-use Rattle.pec_vectors.specs.Hexadecimal.{Hexadecimal, spelled}
-use Rattle.pec_vectors.proofs.Spelling.{no_pair, no_single, rest_hexadecimal, spelled_more, split_two}
+-- One byte more, and the ways out where the line spells none.
+use Rattle.std.proofs.Common.{◌≡◌, ◌++◌, length, vec_items, ap, ◌∙◌, subst, arith, rules, ◌<◌, ◌≤◌}
+use Rattle.std.specs.Slice.Iter.{chunks_rest}
+use Rattle.pec_vectors.specs.Hexadecimal.{Hexadecimal}
+use Rattle.pec_vectors.proofs.Spelling.{no_pair, no_single, pair_is, rest_hexadecimal}
 use Rattle.pec_vectors.proofs.hexadecimal.message.Goals as goal
+use Rattle.pec_vectors.proofs.hexadecimal.message.Goals.{In-Some, in_default-via-then-pair-lt2, in_default-via-else-pair-lt2+else-pair-lt3}
+
+-- what is left of a line that spells bytes spells bytes
+left : (c : In-Some) → Hexadecimal c.args.line.now → Hexadecimal (chunks_rest c.loop-pair.pair-iterator)
+left c h = rest_hexadecimal (vec_items c.loop-pair.bytes) (chunks_rest c.loop-pair.pair-iterator) (subst Hexadecimal c.loop-pair.invariant.3 h)
+
+pub returns-in_default : goal.returns-in_default
+returns-in_default c =
+    λ h.
+    let steps = c.in-Some.ensures.steps in
+    let size = c.loop-pair.invariant.2 in
+    let one : length (chunks_rest c.loop-pair.pair-iterator) ≡ 1 =
+    elim c.in_default.branch [
+      | in_default-via-then-pair-lt2 w ↦ let short : length c.in-Some.pair.now < 2 = search rules in omega (arith, short, size, steps.1.1, steps.1.2)
+      | in_default-via-else-pair-lt2+else-pair-lt3 w ↦ let long : 3 ≤ length c.in-Some.pair.now = search rules in omega (arith, long, size, steps.1.1)
+    ] in
+    no_single _ one (left (goal.at.returns-in_default c).In-Some h)
 
 pub returns-in_default-hex_byte : goal.returns-in_default-hex_byte
 returns-in_default-hex_byte c =
     λ h.
-    let rest = c.loop-rest.rest.now in
-    let two : 2 ≤ length rest = search rules in
-    let left = rest_hexadecimal (vec_items c.loop-rest.bytes) rest (subst Hexadecimal c.loop-rest.invariant h) in
-    no_pair _ _ _ c.in_default-hex_byte.ensures.spells (subst Hexadecimal (split_two rest two) left)
-
-pub loop-rest-preserved : goal.loop-rest-preserved
-loop-rest-preserved c =
-    let rest = c.loop-rest.rest.now in
-    let two : 2 ≤ length rest = search rules in
-    spelled_more c.args.line.now (vec_items c.loop-rest.bytes) rest (vec_items c.push.new.self) c.in-Some.next two c.loop-rest.invariant c.in-Some.ensures.spells
-    c.in_ok-push.ensures.items
-
-pub returns-then-is_empty : goal.returns-then-is_empty
-returns-then-is_empty c =
-    let none : length c.loop-rest.rest.now ≡ 0 = search rules in
-    let bytes = spelled (vec_items c.loop-rest.bytes) in
-    c.loop-rest.invariant ∙ ap (λ (l : List ℕ). bytes ++ l) (nil_from_length _ none) ∙ append-nil bytes
-
-pub returns-else-is_empty : goal.returns-else-is_empty
-returns-else-is_empty c =
-    λ h.
-    let rest = c.loop-rest.rest.now in
-    let one : length rest ≡ 1 = search rules in
-    no_single rest one (rest_hexadecimal (vec_items c.loop-rest.bytes) rest (subst Hexadecimal c.loop-rest.invariant h))
+    let pair = pair_is c.in-Some.pair.now (omega (arith, c.in-len2.len_at_least, c.in-len2.len_below)) in
+    let rest = c.in-Some.ensures.steps.1.0 ∙ ap (λ l. l ++ chunks_rest c.next.new.self) pair in
+    no_pair _ _ _ c.in_default-hex_byte.ensures.spells (subst Hexadecimal rest (left (goal.at.returns-in_default-hex_byte c).In-Some h))
