@@ -1,2 +1,2 @@
-mod Appending
+mod Shown
 mod Turns

@@ -2,10 +2,11 @@
 #![tactic(auto)]
 
 mod answers;
-mod parts;
 mod printing;
 mod sheet;
 
-pub use answers::{Answer, Answered, Monitor, WordWrite, answer_line, limit_on};
+pub use answers::{
+    Answer, Monitor, PlacedCard, Refusal, SetLimit, Setting, WordWrite, answer_line,
+};
 pub use printing::print_answer;
 pub use sheet::sheet_of;

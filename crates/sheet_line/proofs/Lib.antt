@@ -1,7 +1,6 @@
-mod Fronts
 mod Scales
-mod Words
 mod Sequences
+mod Choosing
 mod WordPieces
 mod NumberPieces
 mod Lines

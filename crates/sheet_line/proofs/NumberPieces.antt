@@ -1,22 +1,17 @@
 -- The address and the numbers as pieces of a line.
 -- Assumes nothing.
-use Rattle.std.proofs.Common.{◌≡◌, ℕ, zero, suc, ◌+◌, ◌-◌, ◌*◌, ◌^◌, ◌<◌, ◌≤◌, Bool, true, false, cond, eqb, ltb, ◌⊎◌, List, [], ◌∷◌, ◌++◌, length, take, drop, ℤ, pos, neg_ℤ, Some, None, Ok, Err, Option, Result, sym, refl, ap, ◌∙◌, subst, inl, inr, ⊎_elim, append_assoc, append-nil, arith, length-append}
-use Rattle.std.specs.List.{prefix_len}
+use Rattle.std.proofs.Common.{◌≡◌, ℕ, zero, suc, ◌+◌, ◌-◌, ◌*◌, ◌^◌, ◌<◌, ◌≤◌, true, false, eqb, ltb, ◌⊎◌, List, [], ◌∷◌, ◌++◌, length, take, drop, pos, neg_ℤ, Some, None, Ok, Option, sym, refl, ap, ◌∙◌, subst, inl, inr, ⊎_elim, append_assoc, append-nil, arith, length-append}
+use Rattle.std.proofs.Math.Seq.{drop-append_seam}
 use Rattle.std.proofs.lemmas.List.{nil_from_length}
-use Rattle.std.proofs.lemmas.Bool.{eq-eqb, ne_eqb}
+use Rattle.std.proofs.lemmas.Bool.{eqb-true, ltb-true, ne_eqb, cases_Bool}
 use Rattle.std.proofs.lemmas.Bool.Decides.{nat_tests}
 use Rattle.text.specs.Digits.{is_digit, hex_digit, digits_at_front, number_of}
 use Rattle.sheet_line.specs.Fitting.{Address, EveryDigit, Digits, Magnitude, Value, SameNext}
-use Rattle.sheet_line.specs.Numbers.{number_to_end, fraction_to_end, after_point, point_or_end, magnitude_to_end, with_sign, value_to_end, after_digits, after_whole}
-use Rattle.sheet_line.specs.Pieces.{Given, then, stop, after_byte, hex_at, digit_or_stop, address_at}
+use Rattle.sheet_line.specs.Numbers.{each, number_to_end, fraction_to_end, point_or_end, magnitude_to_end, value_to_end, after_digits, after_whole}
+use Rattle.sheet_line.specs.Pieces.{Given, then, stop, hex_at, digit_or_stop, address_at}
 use Rattle.sheet_line.specs.declared.expected.Expected.{Expected}
 use Rattle.sheet_line.specs.declared.expected.Expected.TheVariants.{HexDigit, Digit, DigitOrMinus}
-use Rattle.sheet_line.specs.declared.pieces.Stop.{Stop}
-use Rattle.sheet_line.proofs.Sequences.{Piece, PieceStops, Ending, Stops, each_ending}
-use Rattle.sheet_line.proofs.WordPieces.{drop_front}
-
-clash : ◌≡◌ {A = ℕ} 0 1 → ⊥
-clash z = omega arith
+use Rattle.sheet_line.proofs.Sequences.{Piece, PieceStops, PieceDecided, Ending, Stops, Decided, each_decided}
 
 -- ---- digits
 
@@ -41,31 +36,24 @@ run zero (x ∷ xs) = record { front = []; back = x ∷ xs; split = refl; count 
     none : (u : List ℕ) → length u ≤ 0 → SameNext (x ∷ xs) u → u ≡ []
     none [] f s = absurd s
     none (y ∷ ys) f s = absurd (omega arith)
-run (suc m) (x ∷ xs) = decided (run m xs) (is_digit x) refl
+run (suc m) (x ∷ xs) =
+    let k = run m xs in
+    ⊎_elim
+    (λ (e : is_digit x ≡ true). record {
+      front = x ∷ k.front;
+      back = k.back;
+      split = ap (λ (l : List ℕ). x ∷ l) k.split;
+      count = rw e (omega (arith, k.count));
+      digits = (e, k.digits);
+      few = omega (arith, k.few);
+      longest = λ u d f s. k.longest u d.1 (omega arith) s;
+    })
+    (λ (e : is_digit x ≡ false). record { front = []; back = x ∷ xs; split = refl; count = rw e (omega arith); digits = tt; few = omega arith; longest = λ u d f s. none e u d s })
+    (cases_Bool (is_digit x))
   where
-    decided : Run m xs → (b : Bool) → is_digit x ≡ b → Run (suc m) (x ∷ xs)
-    decided k true e =
-        let n : prefix_len is_digit (x ∷ xs) ≡ 1 + prefix_len is_digit xs = ap (λ (b : Bool). cond b (1 + prefix_len is_digit xs) 0) e in
-        record {
-          front = x ∷ k.front;
-          back = k.back;
-          split = ap (λ (l : List ℕ). x ∷ l) k.split;
-          count = omega (arith, n, k.count);
-          digits = (e, k.digits);
-          few = omega (arith, k.few);
-          longest = λ u d f s. k.longest u d.1 (omega arith) s;
-        }
-    decided k false e =
-        let n : prefix_len is_digit (x ∷ xs) ≡ 0 = ap (λ (b : Bool). cond b (1 + prefix_len is_digit xs) 0) e in
-        record { front = []; back = x ∷ xs; split = refl; count = omega (arith, n); digits = tt; few = omega arith; longest = λ u d f s. none u d s }
-      where
-        none : (u : List ℕ) → EveryDigit u → SameNext (x ∷ xs) u → u ≡ []
-        none [] d s = absurd s
-        none (y ∷ ys) d s = let z : ◌≡◌ {A = Bool} true false = sym d.0 ∙ ap is_digit (sym s) ∙ e in absurd (clash cc)
-
-take_front : (t rest : List ℕ) → take (length t) (t ++ rest) ≡ t
-take_front [] rest = refl
-take_front (x ∷ t) rest = ap (λ (l : List ℕ). x ∷ l) (take_front t rest)
+    none : is_digit x ≡ false → (u : List ℕ) → EveryDigit u → SameNext (x ∷ xs) u → u ≡ []
+    none e [] d s = absurd s
+    none e (y ∷ ys) d s = let z : true ≡ false = sym d.0 ∙ ap is_digit (sym s) ∙ e in absurd cc
 
 -- where nothing goes on, and the next byte is the same, the text ends
 next_nil : (back u : List ℕ) → u ≡ [] → SameNext back u → back ≡ []
@@ -75,36 +63,8 @@ next_nil back u e s = at_nil back (subst (SameNext back) e s)
     at_nil [] s = refl
     at_nil (x ∷ xs) s = absurd s
 
-left_is : {B : Type 0} (n : ℕ) (e : Expected) (s : Stop) → ◌≡◌ {A = Result B Stop} (stop n e) (Err s) → n ≡ s.left
-left_is {B} n e s h = let same : ◌≡◌ {A = Stop} (record { left = n; expected = e }) s = cc in ap (λ (x : Stop). x.left) same
-
-not_ok : {B : Type 0} (s : Stop) (b : B) → ◌≡◌ {A = Result B Stop} (Err s) (Ok b) → ⊥
-not_ok s b h = clash cc
-
-eqb_zero : (n : ℕ) → eqb n 0 ≡ true → n ≡ 0
-eqb_zero n e = grind (arith, nat_tests)
-
-eqb_some : (n : ℕ) → eqb n 0 ≡ false → 1 ≤ n
-eqb_some n e = grind (arith, nat_tests)
-
-ltb_yes : (a b : ℕ) → ltb a b ≡ true → a < b
-ltb_yes a b e = grind (arith, nat_tests)
-
-ltb_no : (a b : ℕ) → ltb a b ≡ false → b ≤ a
-ltb_no a b e = grind (arith, nat_tests)
-
 -- 1 to `most` digits end a line
 module _ (most : ℕ) (some : 1 ≤ most) where
-  -- the answer, by its two tests
-  answer : List ℕ → Bool → Bool → Result ℕ Stop
-  answer bs none more =
-      cond none (stop (length bs) Digit) (cond more (stop (length bs - digits_at_front most bs) (after_digits most (digits_at_front most bs))) (Ok (number_of bs)))
-
-  answered : (bs : List ℕ) (none more : Bool) → eqb (digits_at_front most bs) 0 ≡ none → ltb (digits_at_front most bs) (length bs) ≡ more → number_to_end most bs ≡ answer bs none more
-  unfolding answer
-  answered bs none more e f =
-      ap (λ (b : Bool). answer bs b (ltb (digits_at_front most bs) (length bs))) e ∙ ap (λ (b : Bool). answer bs none b) f
-
   stopped : (bs : List ℕ) (left : ℕ) → left ≡ length bs - digits_at_front most bs → (digits_at_front most bs ≡ 0) ⊎ (digits_at_front most bs < length bs) → Stops (Digits most) bs left
   stopped bs left is why =
       let k = run most bs in
@@ -127,34 +87,25 @@ module _ (most : ℕ) (some : 1 ≤ most) where
           let all : length bs ≡ length k.front = ap length (k.split ∙ ap (λ (x : List ℕ). k.front ++ x) f ∙ append-nil k.front) in
           ⊎_elim (λ z. omega (arith, k.count, z, long)) (λ z. omega (arith, k.count, z, all)) why
 
-  number_stops : (bs : List ℕ) (s : Stop) (none more : Bool) → eqb (digits_at_front most bs) 0 ≡ none → ltb (digits_at_front most bs) (length bs) ≡ more → number_to_end most bs ≡ Err s → Stops (Digits most) bs s.left
-  unfolding answer
-  number_stops bs s true more e f h =
-      let z = eqb_zero (digits_at_front most bs) e in
-      let l = left_is (length bs) Digit s (sym (answered bs true more e f) ∙ h) in
-      stopped bs s.left (omega (arith, l, z)) (inl z)
-  number_stops bs s false true e f h =
-      let l = left_is (length bs - digits_at_front most bs) (after_digits most (digits_at_front most bs)) s (sym (answered bs false true e f) ∙ h) in
-      stopped bs s.left (sym l) (inr (ltb_yes (digits_at_front most bs) (length bs) f))
-  number_stops bs s false false e f h = absurd (not_ok s (number_of bs) (sym h ∙ answered bs false false e f))
-
-  number_fits : (bs : List ℕ) (b : ℕ) (none more : Bool) → eqb (digits_at_front most bs) 0 ≡ none → ltb (digits_at_front most bs) (length bs) ≡ more → number_to_end most bs ≡ Ok b → Digits most bs
-  unfolding answer
-  number_fits bs b true more e f h = absurd (not_ok _ b (sym (answered bs true more e f) ∙ h))
-  number_fits bs b false true e f h = absurd (not_ok _ b (sym (answered bs false true e f) ∙ h))
-  number_fits bs b false false e f h =
+  number_fits : (bs : List ℕ) → 1 ≤ digits_at_front most bs → length bs ≤ digits_at_front most bs → Digits most bs
+  number_fits bs n m =
       let k = run most bs in
-      let n = eqb_some (digits_at_front most bs) e in
-      let m = ltb_no (digits_at_front most bs) (length bs) f in
       let l : length k.back ≡ 0 = omega (arith, k.count, m, simp length-append at (ap length k.split)) in
-      let all : bs ≡ k.front = k.split ∙ ap (λ (x : List ℕ). k.front ++ x) (nil_from_length k.back l) ∙ append-nil k.front in
+      let all : bs ≡ k.front = k.split ∙ rw (nil_from_length k.back l) (append-nil k.front) in
       subst (Digits most) (sym all) (k.digits, omega (arith, k.count, n), k.few)
 
   pub number_ending : Ending (number_to_end most) (Digits most)
   number_ending =
       record {
-        fits = λ bs b h. number_fits bs b (eqb (digits_at_front most bs) 0) (ltb (digits_at_front most bs) (length bs)) refl refl h;
-        stops = λ bs s h. number_stops bs s (eqb (digits_at_front most bs) 0) (ltb (digits_at_front most bs) (length bs)) refl refl h;
+        decides = λ bs.
+            let n = digits_at_front most bs in
+            ⊎_elim
+            (λ (e : eqb n 0 ≡ true). inr (record { left = length bs; expected = Digit }, rw e refl, stopped bs (length bs) (grind (arith, nat_tests)) (inl (eqb-true n 0 e))))
+            (λ (e : eqb n 0 ≡ false). ⊎_elim
+            (λ (f : ltb n (length bs) ≡ true). inr (record { left = length bs - n; expected = after_digits most n }, rw (e, f) refl, stopped bs (length bs - n) refl (inr (ltb-true n (length bs) f))))
+            (λ (f : ltb n (length bs) ≡ false). inl (number_of bs, rw (e, f) refl, number_fits bs (grind (arith, nat_tests)) (grind (arith, nat_tests))))
+            (cases_Bool (ltb n (length bs))))
+            (cases_Bool (eqb n 0));
         some = (48 ∷ [], ((refl, tt), omega arith, some));
       }
 
@@ -162,14 +113,10 @@ module _ (most : ℕ) (some : 1 ≤ most) where
 
 -- no digit is a point or a minus
 point_no_digit : is_digit 46 ≡ true → ⊥
-point_no_digit e = clash cc
+point_no_digit e = cc
 
 minus_no_digit : is_digit 45 ≡ true → ⊥
-minus_no_digit e = clash cc
-
-digits_left : (xs ys : List ℕ) → EveryDigit (xs ++ ys) → EveryDigit xs
-digits_left [] ys d = tt
-digits_left (x ∷ xs) ys d = (d.0, digits_left xs ys d.1)
+minus_no_digit e = cc
 
 digits_right : (xs ys : List ℕ) → EveryDigit (xs ++ ys) → EveryDigit ys
 digits_right [] ys d = d
@@ -217,7 +164,7 @@ module _ (k : ℕ) (some : 1 ≤ k) where
           next y ys (x ∷ xs) s = s
 
           not_nil : {y : ℕ} → (y ∷ []) ≡ [] → ⊥
-          not_nil e = clash cc
+          not_nil e = cc
 
   module _ (bs : List ℕ) (r : Run 12 bs) (long : 1 ≤ length r.front) where
     -- what follows the digits is neither a digit that may come nor a point
@@ -243,7 +190,7 @@ module _ (k : ℕ) (some : 1 ≤ k) where
         past : (ms : List ℕ) → EveryDigit (r.front ++ c ∷ ms) → length (r.front ++ c ∷ ms) ≤ 12 → ⊥
         past ms d f =
             let e : (c ∷ ms) ≡ [] = r.longest (c ∷ ms) d f (subst (λ (l : List ℕ). SameNext l (c ∷ ms)) (sym is) refl) in
-            clash cc
+            cc
 
         other : (u : List ℕ) → Magnitude k (r.front ++ u) → SameNext r.back u → ⊥
         other u (w, d, inl e) s =
@@ -279,90 +226,35 @@ module _ (k : ℕ) (some : 1 ≤ k) where
             (λ t. point_no_digit (digits_right r.front (46 ∷ t.0) (subst EveryDigit t.1 d.0)).0)
             (pointed w e.0 r.front (j.front ++ u) 46 r.digits lists)
 
-  -- the digits after a point end the line; how they are scaled depends on how many there are
-  fraction : Ending (fraction_to_end k) (Digits k)
-  fraction = record {
-    fits = λ bs b h. (each_ending (λ n. n * 10 ^ (k - length bs)) (number_to_end k) (Digits k) (number_ending k some)).fits bs b h;
-    stops = λ bs s h. (each_ending (λ n. n * 10 ^ (k - length bs)) (number_to_end k) (Digits k) (number_ending k some)).stops bs s h;
-    some = (number_ending k some).some;
-  }
+  -- the digits after a point; how they are scaled depends on how many there are
+  fraction_decided : (bs : List ℕ) → Decided (fraction_to_end k bs) (Digits k) bs
+  fraction_decided bs = each_decided (λ n. n * 10 ^ (k - length bs)) ((number_ending k some).decides bs)
 
-  -- a whole part that is followed by something
-  point_stops : (n whole : ℕ) (b : List ℕ) (s : Stop) → point_or_end k n whole b ≡ Err s →
-      ((c : ℕ) × (cs : List ℕ) × (b ≡ c ∷ cs) × (c ≡ 46 → ⊥) × (length b ≡ s.left)) ⊎ ((cs : List ℕ) × (b ≡ 46 ∷ cs) × Stops (Digits k) cs s.left)
-  point_stops n whole [] s h = absurd (not_ok s _ (sym h))
-  point_stops n whole (c ∷ cs) s h = decided (eqb c 46) refl
-    where
-      some' : point_or_end k n whole (c ∷ cs) ≡ after_point k n whole (length (c ∷ cs)) (cond (eqb c 46) (Some cs) None)
-      some' = ap (λ (b : Bool). cond b (Ok (whole * 10 ^ k)) (after_point k n whole (length (c ∷ cs)) (cond (eqb c 46) (Some cs) None))) (ne_eqb (length (c ∷ cs)) 0 (λ e. omega arith))
+  -- what follows the digits before a point
+  rest_decided : (bs : List ℕ) (r : Run 12 bs) → 1 ≤ length r.front → (n v : ℕ) (b : List ℕ) → b ≡ r.back → Decided (point_or_end k n v b) (Magnitude k) bs
+  rest_decided bs r long n v [] is = inl (v * 10 ^ k, refl, (r.front, (r.digits, long, r.few), inl (r.split ∙ rw (← is) (append-nil r.front))))
+  rest_decided bs r long n v (c ∷ cs) is =
+      let more : eqb (length (c ∷ cs)) 0 ≡ false = ne_eqb _ _ (λ e. omega arith) in
+      ⊎_elim
+      (λ (e : eqb c 46 ≡ true).
+      let back : r.back ≡ 46 ∷ cs = sym is ∙ ap (λ (z : ℕ). z ∷ cs) (eqb-true c 46 e) in
+      ⊎_elim
+      (λ y. inl (v * 10 ^ k + y.0, rw (more, e) (ap (each (λ f. v * 10 ^ k + f)) y.1), (r.front, (r.digits, long, r.few), inr (cs, y.2, r.split ∙ ap (λ (l : List ℕ). r.front ++ l) back))))
+      (λ s. inr (s.0, rw (more, e) (ap (each (λ f. v * 10 ^ k + f)) s.1), fraction_stops bs r long cs s.0.left back s.2))
+      (fraction_decided cs))
+      (λ (e : eqb c 46 ≡ false).
+      inr (record { left = length (c ∷ cs); expected = after_whole n }, rw (more, e) refl, subst (λ (l : List ℕ). Stops (Magnitude k) bs (length l)) (sym is) (whole_stops bs r long c cs (sym is) (λ i. absurd (grind (arith, nat_tests))))))
+      (cases_Bool (eqb c 46))
 
-      decided : (b : Bool) → eqb c 46 ≡ b →
-          ((c' : ℕ) × (cs' : List ℕ) × ((c ∷ cs) ≡ c' ∷ cs') × (c' ≡ 46 → ⊥) × (length (c ∷ cs) ≡ s.left)) ⊎ ((cs' : List ℕ) × ((c ∷ cs) ≡ 46 ∷ cs') × Stops (Digits k) cs' s.left)
-      decided true e =
-          let is : c ≡ 46 = grind (arith, nat_tests) in
-          let got : after_point k n whole (length (c ∷ cs)) (Some cs) ≡ Err s = sym (ap (λ (b : Bool). after_point k n whole (length (c ∷ cs)) (cond b (Some cs) None)) e) ∙ sym some' ∙ h in
-          inr (cs, ap (λ (z : ℕ). z ∷ cs) is, (each_ending (λ f. whole * 10 ^ k + f) (fraction_to_end k) (Digits k) fraction).stops cs s got)
-      decided false e =
-          let got : after_point k n whole (length (c ∷ cs)) None ≡ Err s = sym (ap (λ (b : Bool). after_point k n whole (length (c ∷ cs)) (cond b (Some cs) None)) e) ∙ sym some' ∙ h in
-          inl (c, cs, refl, (λ is. clash (let z : ◌≡◌ {A = Bool} true false = sym (eq-eqb c 46 is) ∙ e in cc)), left_is (length (c ∷ cs)) (after_whole n) s got)
-
-  point_fits : (n whole : ℕ) (b : List ℕ) (v : ℕ) → point_or_end k n whole b ≡ Ok v → (b ≡ []) ⊎ ((cs : List ℕ) × (b ≡ 46 ∷ cs) × Digits k cs)
-  point_fits n whole [] v h = inl refl
-  point_fits n whole (c ∷ cs) v h = decided (eqb c 46) refl
-    where
-      some' : point_or_end k n whole (c ∷ cs) ≡ after_point k n whole (length (c ∷ cs)) (cond (eqb c 46) (Some cs) None)
-      some' = ap (λ (b : Bool). cond b (Ok (whole * 10 ^ k)) (after_point k n whole (length (c ∷ cs)) (cond (eqb c 46) (Some cs) None))) (ne_eqb (length (c ∷ cs)) 0 (λ e. omega arith))
-
-      decided : (b : Bool) → eqb c 46 ≡ b → ((c ∷ cs) ≡ []) ⊎ ((cs' : List ℕ) × ((c ∷ cs) ≡ 46 ∷ cs') × Digits k cs')
-      decided true e =
-          let is : c ≡ 46 = grind (arith, nat_tests) in
-          let got : after_point k n whole (length (c ∷ cs)) (Some cs) ≡ Ok v = sym (ap (λ (b : Bool). after_point k n whole (length (c ∷ cs)) (cond b (Some cs) None)) e) ∙ sym some' ∙ h in
-          inr (cs, ap (λ (z : ℕ). z ∷ cs) is, (each_ending (λ f. whole * 10 ^ k + f) (fraction_to_end k) (Digits k) fraction).fits cs v got)
-      decided false e =
-          let got : after_point k n whole (length (c ∷ cs)) None ≡ Ok v = sym (ap (λ (b : Bool). after_point k n whole (length (c ∷ cs)) (cond b (Some cs) None)) e) ∙ sym some' ∙ h in
-          absurd (not_ok _ v got)
-
-  module _ (first : Expected) where
-    rest_is : (bs : List ℕ) → drop (digits_at_front 12 bs) bs ≡ (run 12 bs).back
-    rest_is bs = let r = run 12 bs in ap (λ (n : ℕ). drop n bs) (sym r.count) ∙ ap (drop (length r.front)) r.split ∙ drop_front r.front r.back
-
-    magnitude_stops : (bs : List ℕ) (s : Stop) (none : Bool) → eqb (digits_at_front 12 bs) 0 ≡ none → magnitude_to_end k first bs ≡ Err s → Stops (Magnitude k) bs s.left
-    magnitude_stops bs s true e h =
-        let got = sym (ap (λ (b : Bool). cond b (stop (length bs) first) (point_or_end k (digits_at_front 12 bs) (number_of (take (digits_at_front 12 bs) bs)) (drop (digits_at_front 12 bs) bs))) e) ∙ h in
-        subst (Stops (Magnitude k) bs) (left_is (length bs) first s got) (none_stops bs (eqb_zero (digits_at_front 12 bs) e))
-    magnitude_stops bs s false e h =
-        let n = digits_at_front 12 bs in
-        let r = run 12 bs in
-        let long : 1 ≤ length r.front = omega (arith, r.count, eqb_some n e) in
-        let got = sym (ap (λ (b : Bool). cond b (stop (length bs) first) (point_or_end k n (number_of (take n bs)) (drop n bs))) e) ∙ h in
-        ⊎_elim
-        (λ t. subst (Stops (Magnitude k) bs) (ap length (sym (rest_is bs)) ∙ t.4) (whole_stops bs r long t.0 t.1 (sym (rest_is bs) ∙ t.2) t.3))
-        (λ t. fraction_stops bs r long t.0 s.left (sym (rest_is bs) ∙ t.1) t.2)
-        (point_stops n (number_of (take n bs)) (drop n bs) s got)
-
-    magnitude_fits : (bs : List ℕ) (v : ℕ) (none : Bool) → eqb (digits_at_front 12 bs) 0 ≡ none → magnitude_to_end k first bs ≡ Ok v → Magnitude k bs
-    magnitude_fits bs v true e h =
-        absurd (not_ok _ v (sym (ap (λ (b : Bool). cond b (stop (length bs) first) (point_or_end k (digits_at_front 12 bs) (number_of (take (digits_at_front 12 bs) bs)) (drop (digits_at_front 12 bs) bs))) e) ∙ h))
-    magnitude_fits bs v false e h =
-        let n = digits_at_front 12 bs in
-        let r = run 12 bs in
-        let long : 1 ≤ length r.front = omega (arith, r.count, eqb_some n e) in
-        let got = sym (ap (λ (b : Bool). cond b (stop (length bs) first) (point_or_end k n (number_of (take n bs)) (drop n bs))) e) ∙ h in (
-          r.front,
-          (r.digits, long, r.few),
-          ⊎_elim
-              (λ t. inl (r.split ∙ ap (λ (l : List ℕ). r.front ++ l) (sym (rest_is bs) ∙ t) ∙ append-nil r.front))
-              (λ t. inr (t.0, t.2, r.split ∙ ap (λ (l : List ℕ). r.front ++ l) (sym (rest_is bs) ∙ t.1)))
-              (point_fits n (number_of (take n bs)) (drop n bs) v got),
-        )
-
-    magnitude_ending : Ending (magnitude_to_end k first) (Magnitude k)
-    magnitude_ending =
-        record {
-          fits = λ bs v h. magnitude_fits bs v (eqb (digits_at_front 12 bs) 0) refl h;
-          stops = λ bs s h. magnitude_stops bs s (eqb (digits_at_front 12 bs) 0) refl h;
-          some = (48 ∷ [], zero_magnitude);
-        }
+  magnitude_decided : (first : Expected) (bs : List ℕ) → Decided (magnitude_to_end k first bs) (Magnitude k) bs
+  magnitude_decided first bs =
+      let n = digits_at_front 12 bs in
+      let r = run 12 bs in
+      let rest : drop n bs ≡ r.back = ap (λ (n : ℕ). drop n bs) (sym r.count) ∙ ap (drop (length r.front)) r.split ∙ drop-append_seam r.front r.back in
+      ⊎_elim
+      (λ (e : eqb n 0 ≡ true). inr (record { left = length bs; expected = first }, rw e refl, none_stops bs (eqb-true n 0 e)))
+      (λ (e : eqb n 0 ≡ false). rw e (rest_decided bs r (let c = r.count in grind (arith, nat_tests)) n (number_of (take n bs)) (drop n bs) rest))
+      (cases_Bool (eqb n 0))
 
   -- a magnitude does not begin with a minus
   no_minus : (m : List ℕ) → Magnitude k (45 ∷ m) → ⊥
@@ -400,7 +292,7 @@ module _ (k : ℕ) (some : 1 ≤ k) where
     where
       minus_first : (front back u m : List ℕ) → bs ≡ front ++ back → front ++ u ≡ 45 ∷ m → SameNext back u → ⊥
       minus_first [] [] (y ∷ ys) m b e s = s
-      minus_first [] [] [] m b e s = clash cc
+      minus_first [] [] [] m b e s = cc
       minus_first [] (x ∷ xs) [] m b e s = s
       minus_first [] (x ∷ xs) (y ∷ ys) m b e s = let h : y ≡ 45 = cc in no_sign xs (b ∙ ap (λ (z : ℕ). z ∷ xs) (s ∙ h))
       minus_first (x ∷ xs) back u m b e s = let h : x ≡ 45 = cc in no_sign (xs ++ back) (b ∙ ap (λ (z : ℕ). z ∷ (xs ++ back)) h)
@@ -409,33 +301,23 @@ module _ (k : ℕ) (some : 1 ≤ k) where
       other u (inl (m, w, e)) s = minus_first j.front j.back u m j.split e s
       other u (inr w) s = j.no_other u w s
 
-  sign_of : (bs : List ℕ) → ((cs : List ℕ) × (bs ≡ 45 ∷ cs) × (after_byte 45 bs ≡ Some cs)) ⊎ (((m : List ℕ) → bs ≡ 45 ∷ m → ⊥) × (after_byte 45 bs ≡ None))
-  sign_of [] = inr ((λ m e. clash cc), refl)
-  sign_of (c ∷ cs) = decided (eqb c 45) refl
-    where
-      decided : (b : Bool) → eqb c 45 ≡ b → ((xs : List ℕ) × ((c ∷ cs) ≡ 45 ∷ xs) × (after_byte 45 (c ∷ cs) ≡ Some xs)) ⊎ (((m : List ℕ) → (c ∷ cs) ≡ 45 ∷ m → ⊥) × (after_byte 45 (c ∷ cs) ≡ None))
-      decided true e = let is : c ≡ 45 = grind (arith, nat_tests) in inl (cs, ap (λ (z : ℕ). z ∷ cs) is, ap (λ (b : Bool). cond b (Some cs) None) e)
-      decided false e =
-          inr ((λ m f. let is : c ≡ 45 = cc in let z : ◌≡◌ {A = Bool} true false = sym (eq-eqb c 45 is) ∙ e in clash cc), ap (λ (b : Bool). cond b (Some cs) None) e)
+  -- no minus stands at the front
+  plain_decided : (bs : List ℕ) → ((m : List ℕ) → bs ≡ 45 ∷ m → ⊥) → Decided (each pos (magnitude_to_end k DigitOrMinus bs)) (Value k) bs
+  plain_decided bs no_sign = ⊎_elim (λ y. inl (y.0, y.1, inr y.2)) (λ n. inr (n.0, n.1, plain_stops bs n.0.left no_sign n.2)) (each_decided pos (magnitude_decided DigitOrMinus bs))
+
+  value_decided : (bs : List ℕ) → Decided (value_to_end k bs) (Value k) bs
+  value_decided [] = plain_decided [] (λ m e. cc)
+  value_decided (c ∷ cs) =
+      ⊎_elim
+      (λ (e : eqb c 45 ≡ true).
+      let is : (c ∷ cs) ≡ 45 ∷ cs = ap (λ (z : ℕ). z ∷ cs) (eqb-true c 45 e) in
+      rw e (⊎_elim (λ y. inl (y.0, y.1, inl (cs, y.2, is))) (λ n. inr (n.0, n.1, subst (λ (l : List ℕ). Stops (Value k) l n.0.left) (sym is) (signed_stops cs n.0.left n.2)))
+      (each_decided (λ n. neg_ℤ (pos n)) (magnitude_decided Digit cs))))
+      (λ (e : eqb c 45 ≡ false). rw e (plain_decided (c ∷ cs) (λ m f. let is : c ≡ 45 = cc in absurd (grind (arith, nat_tests)))))
+      (cases_Bool (eqb c 45))
 
   pub value_ending : Ending (value_to_end k) (Value k)
-  value_ending = record { fits = λ bs v h. fits bs v h (sign_of bs); stops = λ bs s h. stops bs s h (sign_of bs); some = (48 ∷ [], inr zero_magnitude) }
-    where
-      Sign : List ℕ → Type 0
-      Sign bs = ((cs : List ℕ) × (bs ≡ 45 ∷ cs) × (after_byte 45 bs ≡ Some cs)) ⊎ (((m : List ℕ) → bs ≡ 45 ∷ m → ⊥) × (after_byte 45 bs ≡ None))
-
-      fits : (bs : List ℕ) (v : ℤ) → value_to_end k bs ≡ Ok v → ((cs : List ℕ) × (bs ≡ 45 ∷ cs) × (after_byte 45 bs ≡ Some cs)) ⊎ (((m : List ℕ) → bs ≡ 45 ∷ m → ⊥) × (after_byte 45 bs ≡ None)) → Value k bs
-      fits bs v h (inl (cs, e, f)) =
-          inl (cs, (each_ending (λ n. neg_ℤ (pos n)) (magnitude_to_end k Digit) (Magnitude k) (magnitude_ending Digit)).fits cs v (sym (ap (with_sign k bs) f) ∙ h), e)
-      fits bs v h (inr (no_sign, f)) =
-          inr ((each_ending pos (magnitude_to_end k DigitOrMinus) (Magnitude k) (magnitude_ending DigitOrMinus)).fits bs v (sym (ap (with_sign k bs) f) ∙ h))
-
-      stops : (bs : List ℕ) (s : Stop) → value_to_end k bs ≡ Err s → ((cs : List ℕ) × (bs ≡ 45 ∷ cs) × (after_byte 45 bs ≡ Some cs)) ⊎ (((m : List ℕ) → bs ≡ 45 ∷ m → ⊥) × (after_byte 45 bs ≡ None)) → Stops (Value k) bs s.left
-      stops bs s h (inl (cs, e, f)) =
-          subst (λ (l : List ℕ). Stops (Value k) l s.left) (sym e)
-          (signed_stops cs s.left ((each_ending (λ n. neg_ℤ (pos n)) (magnitude_to_end k Digit) (Magnitude k) (magnitude_ending Digit)).stops cs s (sym (ap (with_sign k bs) f) ∙ h)))
-      stops bs s h (inr (no_sign, f)) =
-          plain_stops bs s.left no_sign ((each_ending pos (magnitude_to_end k DigitOrMinus) (Magnitude k) (magnitude_ending DigitOrMinus)).stops bs s (sym (ap (with_sign k bs) f) ∙ h))
+  value_ending = record { decides = value_decided; some = (48 ∷ [], inr zero_magnitude) }
 
 -- ---- the address
 
@@ -465,7 +347,7 @@ no_digit_end : NoDigit []
 no_digit_end y d ys e s = s
 
 no_digit_at : (x : ℕ) (xs : List ℕ) → hex_digit x ≡ None → NoDigit (x ∷ xs)
-no_digit_at x xs none y d ys e s = let z : ◌≡◌ {A = Option ℕ} None (Some d) = sym none ∙ ap hex_digit s ∙ e in clash cc
+no_digit_at x xs none y d ys e s = let z : ◌≡◌ {A = Option ℕ} None (Some d) = sym none ∙ ap hex_digit s ∙ e in cc
 
 -- the first digit is missing, or the second
 no_first : (back : List ℕ) → NoDigit back → PieceStops Address back (length back)
@@ -506,38 +388,20 @@ read_first x y h r e f = ap (λ (o : Option ℕ). first_read o (y ∷ r)) e ∙ 
 read_both : (x y h l : ℕ) (r : List ℕ) → hex_digit x ≡ Some h → hex_digit y ≡ Some l → address_at (x ∷ y ∷ r) ≡ Ok (16 * h + l, r)
 read_both x y h l r e f = ap (λ (o : Option ℕ). first_read o (y ∷ r)) e ∙ ap (λ (o : Option ℕ). second_read h o r) f
 
--- an address that is read, or where it stops
-ReadAddress : List ℕ → Type 0
-ReadAddress bs =
-    ((x : ℕ) × (y : ℕ) × (h : ℕ) × (l : ℕ) × (r : List ℕ) × (bs ≡ x ∷ y ∷ r) × (hex_digit x ≡ Some h) × (hex_digit y ≡ Some l) × (address_at bs ≡ Ok (16 * h + l, r)))
-    ⊎ ((n : ℕ) × (address_at bs ≡ stop n HexDigit) × PieceStops Address bs n)
-
-read_address : (bs : List ℕ) → ReadAddress bs
-unfolding ReadAddress
-read_address [] = inr (0, refl, no_first [] no_digit_end)
-read_address (x ∷ []) =
-    ⊎_elim (λ d. inr (0, read_one x d.0 d.1, no_second x d.0 [] d.1 no_digit_end)) (λ e. inr (1, read_none x [] e, no_first (x ∷ []) (no_digit_at x [] e))) (hex_case x)
-read_address (x ∷ y ∷ r) =
+address_decided : (bs : List ℕ) → PieceDecided (address_at bs) Address bs
+address_decided [] = inr (record { left = 0; expected = HexDigit }, refl, no_first [] no_digit_end)
+address_decided (x ∷ []) =
+    ⊎_elim (λ d. inr (record { left = 0; expected = HexDigit }, read_one x d.0 d.1, no_second x d.0 [] d.1 no_digit_end))
+    (λ e. inr (record { left = 1; expected = HexDigit }, read_none x [] e, no_first (x ∷ []) (no_digit_at x [] e))) (hex_case x)
+address_decided (x ∷ y ∷ r) =
     ⊎_elim
     (λ d. ⊎_elim
-    (λ l. inl (x, y, d.0, l.0, r, refl, d.1, l.1, read_both x y d.0 l.0 r d.1 l.1))
-    (λ f. inr (suc (length r), read_first x y d.0 r d.1 f, no_second x d.0 (y ∷ r) d.1 (no_digit_at y r f))) (hex_case y))
-    (λ e. inr (suc (suc (length r)), read_none x (y ∷ r) e, no_first (x ∷ y ∷ r) (no_digit_at x (y ∷ r) e))) (hex_case x)
+    (λ l. inl (16 * d.0 + l.0, x ∷ y ∷ [], r, read_both x y d.0 l.0 r d.1 l.1, (x, y, d.0, l.0, d.1, l.1, refl, refl), refl))
+    (λ f. inr (record { left = suc (length r); expected = HexDigit }, read_first x y d.0 r d.1 f, no_second x d.0 (y ∷ r) d.1 (no_digit_at y r f))) (hex_case y))
+    (λ e. inr (record { left = suc (suc (length r)); expected = HexDigit }, read_none x (y ∷ r) e, no_first (x ∷ y ∷ r) (no_digit_at x (y ∷ r) e))) (hex_case x)
 
 pub address_piece : Piece address_at Address
-unfolding ReadAddress
-address_piece = record { found = λ bs a rest h. found bs a rest h (read_address bs); reads = reads; stops = λ bs s h. stops bs s h (read_address bs) }
+address_piece = record { reads = reads; decides = address_decided }
   where
     reads : (a : ℕ) (t rest : List ℕ) → Address a t → address_at (t ++ rest) ≡ Ok (a, rest)
     reads a t rest (x, y, h, l, e, f, g, i) = ap (λ (z : List ℕ). address_at (z ++ rest)) i ∙ read_both x y h l rest e f ∙ ap (λ (n : ℕ). Ok (n, rest)) (sym g)
-
-    found : (bs : List ℕ) (a : ℕ) (rest : List ℕ) → address_at bs ≡ Ok (a, rest) → ReadAddress bs → (t : List ℕ) × Address a t × (bs ≡ t ++ rest)
-    found bs a rest h (inl (x, y, hi, lo, r, is, e, f, got)) =
-        let same : ◌≡◌ {A = Given ℕ} (Ok (16 * hi + lo, r)) (Ok (a, rest)) = sym got ∙ h in
-        let both : ◌≡◌ {A = ℕ × List ℕ} (16 * hi + lo, r) (a, rest) = cc in
-        (x ∷ y ∷ [], (x, y, hi, lo, e, f, sym (ap (λ (z : ℕ × List ℕ). z.0) both), refl), is ∙ ap (λ (z : ℕ × List ℕ). x ∷ y ∷ z.1) both)
-    found bs a rest h (inr (n, got, k)) = absurd (not_ok _ (a, rest) (sym got ∙ h))
-
-    stops : (bs : List ℕ) (s : Stop) → address_at bs ≡ Err s → ReadAddress bs → PieceStops Address bs s.left
-    stops bs s h (inl (x, y, hi, lo, r, is, e, f, got)) = absurd (not_ok s (16 * hi + lo, r) (sym h ∙ got))
-    stops bs s h (inr (n, got, k)) = subst (PieceStops Address bs) (left_is n HexDigit s (sym got ∙ h)) k

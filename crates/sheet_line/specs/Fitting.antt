@@ -1,12 +1,12 @@
 -- Which lines fit a form, as texts put together; and which place is that of the first byte that fits nothing.
 -- Assumes nothing.
-use Rattle.std.specs.Prelude.{◌≡◌, ℕ, ◌+◌, ◌*◌, ◌≤◌, true, ◌⊎◌, List, [], ◌∷◌, ◌++◌, length, take, drop, Some}
+use Rattle.std.specs.Prelude.{◌≡◌, ℕ, ◌+◌, ◌*◌, ◌≤◌, true, ◌⊎◌, List, [], ◌∷◌, ◌++◌, length, take, drop, Some, Ok, Err, Result}
 use Rattle.direct.specs.Registers.{register_quantity}
 use Rattle.text.specs.Digits.{is_digit, hex_digit}
 use Rattle.sheet_line.specs.Forms.{decimals}
 use Rattle.sheet_line.specs.Names.{keywords, blank, kinds, current_limits, registers}
-use Rattle.sheet_line.specs.declared.line.Line as l
-use Rattle.sheet_line.specs.declared.line.Line.TheVariants as line
+use Rattle.sheet_line.specs.declared.line.Line.{Line}
+use Rattle.sheet_line.specs.declared.line.Misfit.{Misfit}
 use Rattle.sheet_line.specs.declared.names.Keyword.{Keyword}
 use Rattle.sheet_line.specs.declared.names.Keyword.TheVariants as keyword
 
@@ -78,8 +78,6 @@ pub record FirstMisfit (bs : List ℕ) (p : ℕ) : Type 0 where
   pub no_other : (u : List ℕ) → Fits (take p bs ++ u) → SameNext (drop p bs) u → ⊥
 
 -- a line that was taken apart fits, and a misfit has its place
-abbrev pub Placed : List ℕ → l.Line → Type 0
-Placed bs line.Note = Fits bs
-Placed bs (line.Card a c) = Fits bs
-Placed bs (line.Limit r v) = Fits bs
-Placed bs (line.Misfit p e) = FirstMisfit bs p
+abbrev pub Placed : List ℕ → Result Line Misfit → Type 0
+Placed bs (Ok l) = Fits bs
+Placed bs (Err m) = FirstMisfit bs m.place

@@ -10,6 +10,7 @@ use Rattle.sheet_line.specs.Pieces.{then, one_of, address_at}
 use Rattle.sheet_line.specs.declared.expected.Expected.TheVariants.{Form, Blank, Kind, CurrentLimit, LimitName}
 use Rattle.sheet_line.specs.declared.line.Line as l
 use Rattle.sheet_line.specs.declared.line.Line.TheVariants as line
+use Rattle.sheet_line.specs.declared.line.Misfit.{Misfit}
 use Rattle.sheet_line.specs.declared.names.Keyword.{Keyword}
 use Rattle.sheet_line.specs.declared.names.Keyword.TheVariants as keyword
 use Rattle.sheet_line.specs.declared.pieces.Stop.{Stop}
@@ -38,7 +39,7 @@ card_form bs = then (address_at bs) (λ a bs. then (one_of Blank blank bs) (λ _
 abbrev pub limit_form : List ℕ → Result l.Line Stop
 limit_form bs =
     then (one_of LimitName registers bs) (λ r bs. then (one_of Blank blank bs) (λ _ bs.
-    each (λ v. line.Limit r v) (value_to_end (decimals (register_quantity r)) bs)))
+    each (λ v. line.Limit (record { register = r; value = v })) (value_to_end (decimals (register_quantity r)) bs)))
 
 -- what follows a keyword and a blank
 abbrev pub after_keyword : Keyword → List ℕ → Result l.Line Stop
@@ -50,11 +51,11 @@ abbrev pub form : List ℕ → Result l.Line Stop
 form bs = then (one_of Form keywords bs) (λ k bs. then (one_of Blank blank bs) (λ _ bs. after_keyword k bs))
 
 -- a line of n bytes that was taken apart, or the place where it stops to fit
-abbrev pub line_or_misfit : ℕ → Result l.Line Stop → l.Line
-line_or_misfit n (Ok r) = r
-line_or_misfit n (Err s) = line.Misfit (n - s.left) s.expected
+abbrev pub line_or_misfit : ℕ → Result l.Line Stop → Result l.Line Misfit
+line_or_misfit n (Ok r) = Ok r
+line_or_misfit n (Err s) = Err (record { place = n - s.left; expected = s.expected })
 
 -- a line taken apart: it is a note where it is empty or starts with #
-abbrev pub line_of : List ℕ → l.Line
-line_of [] = line.Note
-line_of (b ∷ bs) = cond (b == 35) line.Note (line_or_misfit (length (b ∷ bs)) (form (b ∷ bs)))
+abbrev pub line_of : List ℕ → Result l.Line Misfit
+line_of [] = Ok line.Note
+line_of (b ∷ bs) = cond (b == 35) (Ok line.Note) (line_or_misfit (length (b ∷ bs)) (form (b ∷ bs)))

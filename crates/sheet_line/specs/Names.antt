@@ -6,6 +6,7 @@ use Rattle.direct.specs.declared.cards.CurrentLimit.{CurrentLimit}
 use Rattle.direct.specs.declared.cards.CurrentLimit.TheVariants.{Vdd, Ground}
 use Rattle.direct.specs.declared.quantities.LimitRegister.{LimitRegister}
 use Rattle.direct.specs.declared.quantities.LimitRegister.TheVariants.{VoutUv, VinOv, VinUv, IinOc, PinOp, OtWarn, OtFault}
+use Rattle.sheet_line.specs.declared.names.Blank.{Blank}
 use Rattle.sheet_line.specs.declared.names.Keyword.{Keyword}
 use Rattle.sheet_line.specs.declared.names.Keyword.TheVariants.{Card, Limit}
 
@@ -14,8 +15,8 @@ abbrev pub keywords : List (List ℕ × Keyword)
 keywords = (codes "card", Card) ∷ (codes "limit", Limit) ∷ []
 
 -- a single blank
-abbrev pub blank : List (List ℕ × Unit {0})
-blank = (codes " ", tt) ∷ []
+abbrev pub blank : List (List ℕ × Blank)
+blank = (codes " ", record {}) ∷ []
 
 -- the kinds of cards
 abbrev pub kinds : List (List ℕ × Kind)

@@ -1,51 +1,54 @@
 // A line of the sheet, taken apart.
-ghost use Rattle.std.specs.Prelude.{◌≡◌, ◌≤◌};
+ghost use Rattle.std.specs.Prelude.{◌≡◌};
 ghost use Rattle.sheet_line.specs.Fitting.{Placed};
-ghost use Rattle.sheet_line.specs.Forms.{decimals, settings, card_form, limit_form, form, line_of};
+ghost use Rattle.sheet_line.specs.Forms.{settings, card_form, limit_form, form, line_of};
 
+use crate::decimals::Decimals;
 use crate::expected::Expected;
-use crate::names::{Keyword, blank_at, current_limit_at, keyword_at, kind_at, register_at};
+use crate::names::{Blank, Keyword, word_at};
 use crate::numbers::{number_to_end, value_to_end};
 use crate::pieces::{Stop, address_at};
-use direct::{Card, LimitRegister, Quantity};
+use direct::{Card, CurrentLimit, Kind, LimitRegister};
 
-#[derive(Clone, Copy)]
+// The most digits of a resistor. Nine digits fit 32 bits.
+const RESISTOR_DIGITS: usize = 9;
+
+// What a limit line asks; the value is in units of the last decimal: µV, µA, µ°C, or mW.
+#[derive(Clone, Copy, PartialEq, Eq, Debug)]
+pub struct Limit {
+    pub register: LimitRegister,
+    pub value: i64,
+}
+
+// What a line says.
+#[derive(Clone, Copy, PartialEq, Eq, Debug)]
 pub enum Line {
     // An empty line, or one that starts with #.
     Note,
+    // The card at an address; whether the address is lawful is not looked at.
     Card { address: u8, card: Card },
-    // The value is in units of the last decimal: µV, µA, µ°C, or mW.
-    Limit { register: LimitRegister, value: i64 },
-    // The line has none of the forms: the place, from 0, of the first byte that fits none, and what was expected there.
-    Misfit { place: usize, expected: Expected },
+    Limit(Limit),
 }
 
-// How many decimals a value of the quantity has.
-pub fn decimals_of(quantity: Quantity) -> u8
-    ensures value { result ≡ decimals quantity }
-    ensures small { result ≤ 6 }
-{
-    match quantity {
-        Quantity::Pin => 3,
-        Quantity::Vin | Quantity::Vout | Quantity::Vaux | Quantity::Iin | Quantity::Temperature =>
-            6,
-    }
+// Where a line has none of the forms: the place, from 0, of its first byte that fits none, and what was expected there.
+#[derive(Clone, Copy, PartialEq, Eq, Debug)]
+pub struct Misfit {
+    pub place: usize,
+    pub expected: Expected,
 }
 
 // What follows the address in a card line.
 fn settings_to_end(rest: &[u8]) -> Result<Card, Stop>
     ensures { result ≡ settings rest.now }
 {
-    let kind = kind_at(rest)?;
-    let blank = blank_at(kind.rest)?;
-    let current_limit = current_limit_at(blank.rest)?;
-    let blank = blank_at(current_limit.rest)?;
-    let resistor = number_to_end(blank.rest, 9)? as u32;
-    let kind = kind.value;
-    let current_limit = current_limit.value;
+    let kind = word_at::<Kind>(rest)?;
+    let blank = word_at::<Blank>(kind.rest)?;
+    let current_limit = word_at::<CurrentLimit>(blank.rest)?;
+    let blank = word_at::<Blank>(current_limit.rest)?;
+    let resistor = number_to_end(blank.rest, RESISTOR_DIGITS)? as u32;
     Ok(Card {
-        kind,
-        current_limit,
+        kind: kind.value,
+        current_limit: current_limit.value,
         resistor,
     })
 }
@@ -55,53 +58,54 @@ fn card_to_end(rest: &[u8]) -> Result<Line, Stop>
     ensures { result ≡ card_form rest.now }
 {
     let address = address_at(rest)?;
-    let blank = blank_at(address.rest)?;
+    let blank = word_at::<Blank>(address.rest)?;
     let card = settings_to_end(blank.rest)?;
-    let address = address.value;
-    Ok(Line::Card { address, card })
+    Ok(Line::Card {
+        address: address.value,
+        card,
+    })
 }
 
 // What follows `limit` and a blank.
 fn limit_to_end(rest: &[u8]) -> Result<Line, Stop>
     ensures { result ≡ limit_form rest.now }
 {
-    let register = register_at(rest)?;
-    let blank = blank_at(register.rest)?;
+    let register = word_at::<LimitRegister>(rest)?;
+    let blank = word_at::<Blank>(register.rest)?;
     let register = register.value;
-    let value = value_to_end(blank.rest, decimals_of(register.quantity()))?;
-    Ok(Line::Limit { register, value })
+    let value = value_to_end(blank.rest, Decimals::of(register.quantity()))?;
+    Ok(Line::Limit(Limit { register, value }))
 }
 
 // A line that is no note.
 fn form_of(line: &[u8]) -> Result<Line, Stop>
     ensures { result ≡ form line.now }
 {
-    let keyword = keyword_at(line)?;
-    let blank = blank_at(keyword.rest)?;
+    let keyword = word_at::<Keyword>(line)?;
+    let blank = word_at::<Blank>(keyword.rest)?;
     match keyword.value {
         Keyword::Card => card_to_end(blank.rest),
         Keyword::Limit => limit_to_end(blank.rest),
     }
 }
 
-// The line taken apart by its definition.
-fn taken_apart(line: &[u8]) -> Line
+// The line taken apart by its definition; that the place is the first misfit's follows from that alone.
+fn taken_apart(line: &[u8]) -> Result<Line, Misfit>
     ensures { result ≡ line_of line.now }
 {
     if let [] | [b'#', ..] = line {
-        return Line::Note;
+        return Ok(Line::Note);
     }
-    match form_of(line) {
-        Ok(form) => form,
-        Err(stop) => Line::Misfit {
-            place: line.len().saturating_sub(stop.left),
-            expected: stop.expected,
-        },
-    }
+    form_of(line).map_err(|stop| Misfit {
+        place: line.len().saturating_sub(stop.left),
+        expected: stop.expected,
+    })
 }
 
 // The line taken apart: it fits a form, or the answer has the place of its first byte that fits nothing.
-pub fn read_line(line: &[u8]) -> Line
+// A function and no TryFrom: its two clauses have names of their own.
+#[tactic(auto, using(crate::proofs::Lines::line_placed))]
+pub fn read_line(line: &[u8]) -> Result<Line, Misfit>
     ensures value { result ≡ line_of line.now }
     ensures placed { Placed line.now result }
 {
