@@ -1,3 +1,3 @@
-pub mod Commands
+pub mod Judgements
 pub mod Shown
 pub mod Serving

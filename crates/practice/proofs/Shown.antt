@@ -25,7 +25,7 @@ use Rattle.segment.specs.Stations.{AfterTransfer, Effect, Raised, Rejected, Tran
 use Rattle.segment.specs.declared.faults.StationFault.{StationFault}
 use Rattle.segment.specs.declared.faults.StationFault.TheVariants.{UnknownCommand, WrongCounts, WrongCode, UnlawfulData, WordOutOfRange, MissingPin}
 use Rattle.practice.specs.Practice.{Accepted, AsUnknown, Answered, Concluded, Refused, Served, asked, ruled}
-use Rattle.practice.proofs.Commands.{by_command, judged_block, judged_send, judged_word, request_of}
+use Rattle.practice.proofs.Judgements.{by_command, judged_block, judged_send, judged_word, request_of}
 
 -- a set latched, perhaps another frame, and the box rule
 pub raised : (set : Conditions) (frame : Frame) (x y : Entry) → AfterRaise set x.alert y.alert

@@ -10,18 +10,18 @@ use segment::Sample;
 pub fn take(entry: &mut Entry, sample: Sample) -> Conditions
     ensures { Taken sample result entry.old entry.new }
 {
-    let set = Conditions::of_word(sample.pins);
+    let set = Conditions::from(sample.pins);
     entry.raise(set);
     entry.show(frame_of(sample));
     entry.apply_box_rule();
     set
 }
 
-// The frame of a sample: its five words and its pins.
+// The frame of a sample: its five words and its pins. A function, since both types are of other crates, where alone they could have a From.
 fn frame_of(sample: Sample) -> Frame
     ensures { result.bytes ≡ frame_bytes (sample_words sample) }
 {
-    Frame::of_words([
+    Frame::from([
         sample.vin,
         sample.vout,
         sample.iin,

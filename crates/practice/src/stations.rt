@@ -25,7 +25,7 @@ impl PracticeStation {
         ensures entry { AsFirst address first mask result.entry }
     {
         PracticeStation {
-            entry: Entry::new(address, first, mask, Frame::of_words([0; 6])),
+            entry: Entry::new(address, first, mask, Frame::from([0; 6])),
             first,
             mask,
         }
@@ -61,12 +61,13 @@ impl Station for PracticeStation {
         answer
     }
 
+    #[tactic(auto, using(crate::proofs::Shown::answered))]
     fn answer_alert(&mut self) {
         answer(&mut self.entry);
     }
 }
 
-// Answers an alert read.
+// Answers an alert read; on the entry alone, as `serve`.
 fn answer(entry: &mut Entry)
     ensures { Answered entry.old entry.new }
 {

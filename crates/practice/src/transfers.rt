@@ -2,29 +2,24 @@
 ghost use Rattle.std.specs.Prelude.{◌≡◌, ◌∷◌, length};
 ghost use Rattle.alert.specs.Entries.{address_of};
 ghost use Rattle.request.specs.Replies.{replied};
-ghost use Rattle.segment.specs.Requesting.{common_body, common_form};
+ghost use Rattle.segment.specs.Requesting.{common_body};
+ghost use Rattle.practice.specs.Commands.{number_of};
 ghost use Rattle.practice.specs.Practice.{Concluded, Served, asked, body_size};
 
+use crate::commands::{BOX_COUNT, Command};
 use alert::{Conditions, Entry};
-use request::{Access, Form, Request, judge, write_reply};
+use request::{Access, Request, judge, write_reply};
 use segment::{Reply, StationFault};
 
-const CLEAR: u8 = 0x03;
-
-const MASK: u8 = 0xd8;
-
-const BLACK_BOX: u8 = 0xe0;
-
 // Does what the request asks for, or refuses it; neither latches the refusal nor applies the box rule.
+// On the entry alone, so that what the station was built from is seen to stay.
 pub fn serve(entry: &mut Entry, request: Request, reply: &mut [u8]) -> Result<Reply, StationFault>
     ensures { Served (asked request (address_of entry.old) (length reply.old)) request.command entry.old reply.old result reply.new entry.new }
 {
-    let Some(form) = form_of(request.command) else {
-        return Err(StationFault::UnknownCommand(Conditions::communication()));
-    };
-    match judge(form, entry.address(), request, reply.len())? {
+    let command = Command::try_from(request.command)?;
+    match judge(command.form(), entry.address(), request, reply.len())? {
         Access::Send => entry.clear(),
-        Access::Read => write_body(entry, request.command, reply),
+        Access::Read => write_body(entry, command, reply),
         Access::WriteWord(word) => entry.write_mask(word),
         Access::WriteByte(_) => {}
     }
@@ -41,27 +36,20 @@ pub fn conclude(entry: &mut Entry, answer: Result<Reply, StationFault>)
     entry.apply_box_rule();
 }
 
-// The form of each of the three commands.
-fn form_of(command: u8) -> Option<Form>
-    ensures { result ≡ common_form command }
-{
-    match command {
-        CLEAR => Some(Form::SendByte),
-        MASK => Some(Form::WordRegister),
-        BLACK_BOX => Some(Form::BlockRead(12)),
-        _ => None,
-    }
-}
-
 // Replies with the mask word low byte first, or else with the count and the bytes of the black box.
-fn write_body(entry: &Entry, command: u8, reply: &mut [u8])
-    ensures size { length (common_body command entry.now) ≡ body_size command }
-    ensures value { reply.new ≡ replied (address_of entry.now) command (common_body command entry.now) reply.old }
+// On the entry alone, as `serve`.
+fn write_body(entry: &Entry, command: Command, reply: &mut [u8])
+    ensures size { length (common_body (number_of command) entry.now) ≡ body_size (number_of command) }
+    ensures value { reply.new ≡ replied (address_of entry.now) (number_of command) (common_body (number_of command) entry.now) reply.old }
 {
-    if command == MASK {
-        write_reply(entry.address(), command, &entry.mask().to_le_bytes(), reply);
-    } else {
-        write_reply(entry.address(), command, &block(entry.box_bytes()), reply);
+    let number = command.number();
+    match command {
+        Command::Mask => {
+            write_reply(entry.address(), number, &entry.mask().to_le_bytes(), reply);
+        }
+        Command::Clear | Command::BlackBox => {
+            write_reply(entry.address(), number, &block(entry.box_bytes()), reply);
+        }
     }
 }
 
@@ -69,7 +57,8 @@ fn write_body(entry: &Entry, command: u8, reply: &mut [u8])
 fn block(bytes: [u8; 12]) -> [u8; 13]
     ensures { result ≡ 12 ∷ bytes }
 {
-    let mut block = [12; 13];
-    block[1..13].copy_from_slice(&bytes);
+    let mut block = [0; 13];
+    block[0] = BOX_COUNT;
+    block[1..].copy_from_slice(&bytes);
     block
 }

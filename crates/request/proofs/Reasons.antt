@@ -85,14 +85,21 @@ by_data WordRegister a c Longer w = writing w (Err Counts) (Of WordRegister a c 
 pub reason : (form : Form) (address : ℕ) (r : Request) (wanted : ℕ) (j : Judgement) → j ≡ judged form address r wanted → Reason form address r wanted j
 reason form address r wanted j e = subst (Reason form address r wanted) (sym e) (by_data form address r.command r.data_bytes wanted)
 
--- a refusal by counts is exactly that they do not fit
-pub counts_exact : (form : Form) (address : ℕ) (r : Request) (wanted : ℕ) (j : Judgement) → Reason form address r wanted j → (j ≡ Err Counts) ↔ (Fits form r.data_bytes wanted → ⊥)
-counts_exact form address r wanted (Ok x) h = (λ e. grind arith, λ unfit. absurd (unfit h.0))
-counts_exact form address r wanted (Err Counts) h = (λ _. h, λ _. refl)
-counts_exact form address r wanted (Err Code) h = (λ e. grind arith, λ unfit. absurd (unfit h.0))
+module _ (form : Form) (address : ℕ) (r : Request) (wanted : ℕ) where
+  counts_by_reason : (j : Judgement) → Reason form address r wanted j → (j ≡ Err Counts) ↔ (Fits form r.data_bytes wanted → ⊥)
+  counts_by_reason (Ok x) h = (λ e. grind arith, λ unfit. absurd (unfit h.0))
+  counts_by_reason (Err Counts) h = (λ _. h, λ _. refl)
+  counts_by_reason (Err Code) h = (λ e. grind arith, λ unfit. absurd (unfit h.0))
 
--- a refusal by code is exactly that the counts fit and the code is wrong
-pub code_exact : (form : Form) (address : ℕ) (r : Request) (wanted : ℕ) (j : Judgement) → Reason form address r wanted j → (j ≡ Err Code) ↔ (Fits form r.data_bytes wanted × HasWrongCode form address r)
-code_exact form address r wanted (Ok x) h = (λ e. grind arith, λ both. absurd (h.1 both.1))
-code_exact form address r wanted (Err Counts) h = (λ e. grind arith, λ both. absurd (h both.0))
-code_exact form address r wanted (Err Code) h = (λ _. h, λ _. refl)
+  code_by_reason : (j : Judgement) → Reason form address r wanted j → (j ≡ Err Code) ↔ (Fits form r.data_bytes wanted × HasWrongCode form address r)
+  code_by_reason (Ok x) h = (λ e. grind arith, λ both. absurd (h.1 both.1))
+  code_by_reason (Err Counts) h = (λ e. grind arith, λ both. absurd (h both.0))
+  code_by_reason (Err Code) h = (λ _. h, λ _. refl)
+
+  -- a refusal by counts is exactly that they do not fit
+  pub counts_exact : (j : Judgement) → j ≡ judged form address r wanted → (j ≡ Err Counts) ↔ (Fits form r.data_bytes wanted → ⊥)
+  counts_exact j e = counts_by_reason j (reason form address r wanted j e)
+
+  -- a refusal by code is exactly that the counts fit and the code is wrong
+  pub code_exact : (j : Judgement) → j ≡ judged form address r wanted → (j ≡ Err Code) ↔ (Fits form r.data_bytes wanted × HasWrongCode form address r)
+  code_exact j e = code_by_reason j (reason form address r wanted j e)

@@ -1,6 +1,6 @@
 -- What a transfer asks for, or why it is refused: first its counts, then a written code.
 -- Assumes nothing.
-use Rattle.std.specs.Prelude.{ℕ, ◌+◌, ◌*◌, cond, List, [], ◌∷◌, Ok, Err, Result, ◌==◌}
+use Rattle.std.specs.Prelude.{◌≡◌, ℕ, ◌+◌, ◌*◌, cond, List, [], ◌∷◌, Some, None, Ok, Err, Option, Result, ◌==◌}
 use Rattle.smbus.specs.PacketErrorCode.{EndsInCode, code_of, write_message}
 use Rattle.request.specs.Forms.{CodeWritten, is_whole}
 use Rattle.request.specs.Requests.{written_bytes}
@@ -57,6 +57,34 @@ word_written address command (One x) = Err Counts
 word_written address command (Two low high) = Ok (WriteWord (word low high))
 word_written address command (Three low high code) = coded address (command ∷ low ∷ high ∷ []) code (WriteWord (word low high))
 word_written address command Longer = Err Counts
+
+-- a send or a write in a form
+abbrev pub written_in : Form → ℕ → ℕ → DataBytes → Judgement
+written_in SendByte address command bytes = sent address command bytes
+written_in ByteRegister address command bytes = byte_written address command bytes
+written_in WordRegister address command bytes = word_written address command bytes
+written_in ReadByte address command bytes = Err Counts
+written_in ReadWord address command bytes = Err Counts
+written_in (BlockRead n) address command bytes = Err Counts
+
+-- the data bytes before the last
+abbrev pub before_last : DataBytes → List ℕ
+before_last Nothing = []
+before_last (One x) = []
+before_last (Two x y) = x ∷ []
+before_last (Three x y z) = x ∷ y ∷ []
+before_last Longer = []
+
+-- an access and the code that ends its bytes, where they end in one: refused where that is not the code of the bytes before it
+abbrev pub checked : ℕ → List ℕ → Option (Access × Option ℕ) → Judgement
+checked address before None = Err Counts
+checked address before (Some (access, None)) = Ok access
+checked address before (Some (access, Some code)) = coded address before code access
+
+-- at every address and with every command this is what the data bytes send or write in a form
+abbrev pub MeansWritten : Form → DataBytes → Option (Access × Option ℕ) → Type 0
+MeansWritten form bytes found =
+    (address command : ℕ) → checked address (command ∷ before_last bytes) found ≡ written_in form address command bytes
 
 -- a send or a write, with which nothing is wanted
 abbrev pub unless_wanted : ℕ → Judgement → Judgement

@@ -1,7 +1,9 @@
 // What a transfer asks for, or why it is refused.
-ghost use Rattle.std.specs.Prelude.{◌≡◌, ◌≤◌, ◌↔◌, Err};
+ghost use Rattle.std.specs.Prelude.{◌≡◌, ◌∷◌, ◌≤◌, ◌↔◌, Err};
+ghost use Rattle.smbus.specs.PacketErrorCode.{code_of, write_message};
 ghost use Rattle.request.specs.Forms.{Fits};
-ghost use Rattle.request.specs.Judging.{HasWrongCode, byte_written, coded, judged, read, sent, unless_wanted, word_written};
+ghost use Rattle.request.specs.Judging.{HasWrongCode, MeansWritten, before_last, judged, read, unless_wanted, word, written_in};
+ghost use Rattle.request.specs.declared.judging.Access.TheVariants.{WriteWord};
 
 use crate::forms::Form;
 use crate::refusals::RequestRefusal;
@@ -9,15 +11,20 @@ use crate::requests::{DataBytes, Request};
 use smbus::{Address, write_code};
 
 // What a transfer that fits asks for.
-#[derive(Clone, Copy, PartialEq, Eq)]
+#[derive(Clone, Copy, PartialEq, Eq, Debug)]
 pub enum Access {
+    // The command itself, without data.
     Send,
+    // The reply of the command.
     Read,
+    // A write of this byte.
     WriteByte(u8),
+    // A write of this word.
     WriteWord(u16),
 }
 
 // What the request asks for in its form: refused by its counts first, then by a written code.
+#[tactic(auto, using(crate::proofs::Reasons::counts_exact, crate::proofs::Reasons::code_exact))]
 pub fn judge(
     form: Form,
     address: Address,
@@ -28,100 +35,97 @@ pub fn judge(
     ensures counts { (result ≡ Err RequestRefusal.Counts) ↔ (Fits form request.data_bytes wanted → ⊥) }
     ensures code { (result ≡ Err RequestRefusal.Code) ↔ (Fits form request.data_bytes wanted × HasWrongCode form address.byte request) }
 {
-    judge_form(form, address, request, wanted)
+    let transfer = Transfer {
+        address,
+        request,
+        wanted,
+    };
+    transfer.judge(form)
 }
 
-// The judgement by the form.
-fn judge_form(
-    form: Form,
+// A request at an address, with so many bytes wanted.
+#[derive(Clone, Copy)]
+struct Transfer {
     address: Address,
     request: Request,
     wanted: usize,
-) -> Result<Access, RequestRefusal>
-    ensures { result ≡ judged form address.byte request wanted }
-{
-    let bytes = request.data_bytes;
-    match (form, bytes) {
-        (Form::ReadByte, _) | (Form::ByteRegister, DataBytes::Nothing) => {
-            judge_read(1, bytes, wanted)
+}
+
+impl Transfer {
+    // The judgement by the form.
+    fn judge(self, form: Form) -> Result<Access, RequestRefusal>
+        ensures { result ≡ judged form self.address.byte self.request self.wanted }
+    {
+        match (form, self.request.data_bytes) {
+            (Form::ReadByte, _) | (Form::ByteRegister, DataBytes::Nothing) => self.judge_read(1),
+            (Form::ReadWord, _) | (Form::WordRegister, DataBytes::Nothing) => self.judge_read(2),
+            (Form::BlockRead(count), _) => self.judge_read(usize::from(count) + 1),
+            (Form::SendByte | Form::ByteRegister | Form::WordRegister, _) => self.judge_write(form),
         }
-        (Form::ReadWord, _) | (Form::WordRegister, DataBytes::Nothing) => {
-            judge_read(2, bytes, wanted)
+    }
+
+    // A read of a reply of so many bytes.
+    fn judge_read(self, size: usize) -> Result<Access, RequestRefusal>
+        requires { size ≤ 256 }
+        ensures { result ≡ read size self.request.data_bytes self.wanted }
+    {
+        match self.request.data_bytes {
+            DataBytes::Nothing if self.wanted == size || self.wanted == size + 1 => {
+                Ok(Access::Read)
+            }
+            _ => Err(RequestRefusal::Counts),
         }
-        (Form::BlockRead(n), _) => judge_read(n as usize + 1, bytes, wanted),
-        (Form::SendByte, _) => judge_send(address, request, wanted),
-        (Form::ByteRegister, _) => judge_byte(address, request, wanted),
-        (Form::WordRegister, _) => judge_word(address, request, wanted),
     }
-}
 
-// A read of a reply of so many bytes.
-fn judge_read(size: usize, data_bytes: DataBytes, wanted: usize) -> Result<Access, RequestRefusal>
-    requires { size ≤ 256 }
-    ensures { result ≡ read size data_bytes wanted }
-{
-    match data_bytes {
-        DataBytes::Nothing if wanted == size || wanted == size + 1 => Ok(Access::Read),
-        _ => Err(RequestRefusal::Counts),
-    }
-}
-
-// A send, with which nothing is wanted.
-fn judge_send(address: Address, request: Request, wanted: usize) -> Result<Access, RequestRefusal>
-    ensures { result ≡ unless_wanted wanted (sent address.byte request.command request.data_bytes) }
-{
-    match request.data_bytes {
-        _ if wanted != 0 => Err(RequestRefusal::Counts),
-        DataBytes::Nothing => Ok(Access::Send),
-        DataBytes::One(code) => check_code(address, &[request.command], code, Access::Send),
-        _ => Err(RequestRefusal::Counts),
-    }
-}
-
-// A write of a byte, with which nothing is wanted.
-fn judge_byte(address: Address, request: Request, wanted: usize) -> Result<Access, RequestRefusal>
-    ensures { result ≡ unless_wanted wanted (byte_written address.byte request.command request.data_bytes) }
-{
-    match request.data_bytes {
-        _ if wanted != 0 => Err(RequestRefusal::Counts),
-        DataBytes::One(byte) => Ok(Access::WriteByte(byte)),
-        DataBytes::Two(byte, code) => check_code(
-            address,
-            &[request.command, byte],
-            code,
-            Access::WriteByte(byte),
-        ),
-        _ => Err(RequestRefusal::Counts),
-    }
-}
-
-// A write of a word, with which nothing is wanted.
-fn judge_word(address: Address, request: Request, wanted: usize) -> Result<Access, RequestRefusal>
-    ensures { result ≡ unless_wanted wanted (word_written address.byte request.command request.data_bytes) }
-{
-    match request.data_bytes {
-        _ if wanted != 0 => Err(RequestRefusal::Counts),
-        DataBytes::Two(low, high) => Ok(Access::WriteWord(u16::from_le_bytes([low, high]))),
-        DataBytes::Three(low, high, code) => {
-            let access = Access::WriteWord(u16::from_le_bytes([low, high]));
-            check_code(address, &[request.command, low, high], code, access)
+    // A send or a write, with which nothing is wanted, and whose code, where one is written, is that of the bytes before it.
+    fn judge_write(self, form: Form) -> Result<Access, RequestRefusal>
+        ensures { result ≡ unless_wanted self.wanted (written_in form self.address.byte self.request.command self.request.data_bytes) }
+    {
+        if self.wanted != 0 {
+            return Err(RequestRefusal::Counts);
         }
-        _ => Err(RequestRefusal::Counts),
+        let (access, code) = written(form, self.request.data_bytes).ok_or(RequestRefusal::Counts)?;
+        match code {
+            Some(code) if code != self.code_before_last() => Err(RequestRefusal::Code),
+            _ => Ok(access),
+        }
+    }
+
+    // The packet error code of the written bytes before the last.
+    fn code_before_last(self) -> u8
+        ensures { result ≡ code_of (write_message self.address.byte (self.request.command ∷ before_last self.request.data_bytes)) }
+    {
+        let command = self.request.command;
+        match self.request.data_bytes {
+            DataBytes::Two(byte, _) => write_code(self.address, &[command, byte]),
+            DataBytes::Three(low, high, _) => write_code(self.address, &[command, low, high]),
+            _ => write_code(self.address, &[command]),
+        }
     }
 }
 
-// The access, where the code is that of the written bytes before it.
-fn check_code(
-    address: Address,
-    before: &[u8],
-    code: u8,
-    access: Access,
-) -> Result<Access, RequestRefusal>
-    ensures { result ≡ coded address.byte before.now code access }
+// What data bytes send or write in a form, where they do, and the code that ends them, where one does.
+fn written(form: Form, data_bytes: DataBytes) -> Option<(Access, Option<u8>)>
+    ensures { MeansWritten form data_bytes result }
 {
-    if code == write_code(address, before) {
-        Ok(access)
-    } else {
-        Err(RequestRefusal::Code)
+    match (form, data_bytes) {
+        (Form::SendByte, DataBytes::Nothing) => Some((Access::Send, None)),
+        (Form::SendByte, DataBytes::One(code)) => Some((Access::Send, Some(code))),
+        (Form::ByteRegister, DataBytes::One(byte)) => Some((Access::WriteByte(byte), None)),
+        (Form::ByteRegister, DataBytes::Two(byte, code)) => {
+            Some((Access::WriteByte(byte), Some(code)))
+        }
+        (Form::WordRegister, DataBytes::Two(low, high)) => Some((write_word(low, high), None)),
+        (Form::WordRegister, DataBytes::Three(low, high, code)) => {
+            Some((write_word(low, high), Some(code)))
+        }
+        _ => None,
     }
+}
+
+// A write of a word, of which the low byte comes first.
+fn write_word(low: u8, high: u8) -> Access
+    ensures { result ≡ WriteWord (word low high) }
+{
+    Access::WriteWord(u16::from_le_bytes([low, high]))
 }

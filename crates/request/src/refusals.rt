@@ -2,12 +2,13 @@
 ghost use Rattle.std.specs.Prelude.{◌≡◌};
 ghost use Rattle.request.specs.Refusals.{number_of};
 
-#[derive(Clone, Copy, PartialEq, Eq)]
+// Which judgement a transfer fails.
+#[derive(Clone, Copy, PartialEq, Eq, Debug)]
 pub enum RequestRefusal {
     // The bytes written and wanted do not fit the form.
-    Counts,
+    Counts = 5,
     // A packet error code is written, and it is wrong.
-    Code,
+    Code = 6,
 }
 
 impl RequestRefusal {
@@ -15,9 +16,6 @@ impl RequestRefusal {
     pub fn number(self) -> u8
         ensures { result ≡ number_of self }
     {
-        match self {
-            RequestRefusal::Counts => 5,
-            RequestRefusal::Code => 6,
-        }
+        self as u8
     }
 }

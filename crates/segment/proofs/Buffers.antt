@@ -1,6 +1,6 @@
 -- Entries written over the first places of a buffer: one, none, and those of one list after those of another.
 -- Assumes nothing.
-use Rattle.std.proofs.Common.{◌≡◌, ℕ, suc, ◌-◌, ◌<◌, ◌≤◌, min, List, [], ◌∷◌, ◌++◌, length, take, drop, set, sym, refl, ap, ◌∙◌, subst, append-nil, le_of_suc-le-suc, not-suc-le-zero, arith, length-drop}
+use Rattle.std.proofs.Common.{◌≡◌, ℕ, suc, ◌-◌, ◌<◌, ◌≤◌, min, List, [], ◌∷◌, ◌++◌, length, take, drop, set, sym, refl, ap, ◌∙◌, subst, append-nil, not-suc-le-zero, arith, length-drop}
 use native.Mathlib.Nat.{min-zero, suc-min-suc, zero-min}
 use lib.Seq.{drop-nil, take-nil}
 use Rattle.alert.specs.declared.entries.Entry.{Entry}
@@ -26,11 +26,6 @@ over_length (x ∷ xs) (b ∷ buffer) = ap suc (over_length xs buffer)
 pub over_one : (e : Entry) (buffer : List Entry) → 0 < length buffer → set buffer 0 e ≡ written_over (e ∷ []) buffer
 over_one e [] h = absurd (not-suc-le-zero h)
 over_one e (b ∷ buffer) h = ap (λ (rest : List Entry). e ∷ rest) (sym (over_nothing buffer))
-
--- one entry, where there is no place for it
-pub over_none : (e : Entry) (buffer : List Entry) → length buffer < 1 → buffer ≡ written_over (e ∷ []) buffer
-over_none e [] h = refl
-over_none e (b ∷ buffer) h = absurd (not-suc-le-zero (le_of_suc-le-suc h))
 
 -- the entries of l, then those of r over what is left, with the number of places that l takes
 over_then : (l r buffer : List Entry) (start : ℕ) → start ≡ min (length l) (length buffer)

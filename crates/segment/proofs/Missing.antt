@@ -1,7 +1,7 @@
 -- Which answers say that a call reached no station: none that a station gave.
 -- Assumes nothing.
 use Rattle.std.proofs.Common.{◌≡◌, ℕ, Bool, true, false, ◌&&◌, ltb, List, length, Some, None, Ok, Err, Option, Result, sym, refl, ap, ◌∙◌, subst, arith}
-use borrow.Author.Tests.{both_ways}
+use Rattle.std.proofs.lemmas.Bool.{both_ways}
 use Rattle.alert.specs.declared.conditions.Conditions.{Conditions}
 use Rattle.alert.specs.declared.entries.Entry.{Entry}
 use Rattle.request.specs.Requests.{taken_apart}

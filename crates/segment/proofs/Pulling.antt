@@ -1,7 +1,7 @@
 -- The lowest address that pulls, and whether any does.
 -- Assumes nothing.
 use Rattle.std.proofs.Common.{◌≡◌, ℕ, min, Bool, true, false, cond, ◌||◌, eqb, ltb, List, [], ◌∷◌, ◌++◌, length, drop, is_some, Some, None, Ok, Option, Result, sym, refl, ap, ◌∙◌, subst, inl, inr, arith, eq-eqb}
-use borrow.Author.Tests.{eqb-false, both_ways}
+use Rattle.std.proofs.lemmas.Bool.{both_ways, eqb-false, or_left, or_right}
 use Rattle.alert.specs.declared.conditions.Conditions.{Conditions}
 use Rattle.smbus.specs.declared.address.Address.{Address}
 use Rattle.alert.specs.Entries.{address_of, pulls}
@@ -11,13 +11,8 @@ use Rattle.segment.specs.Segments.{Accepted, AlertChecked, ReadsAlert, Answered,
 use Rattle.segment.specs.Stations as station
 use Rattle.segment.specs.declared.faults.SegmentFault.{SegmentFault}
 use Rattle.segment.specs.declared.faults.SegmentFault.TheVariants.{AlertCounts, NobodyPulls, ShortBuffer}
-use Rattle.segment.proofs.Places.{or_true_left, or_true_right}
 
 -- ---- the lower of two
-
-lower_none : (b : Option ℕ) → lower b None ≡ b
-lower_none None = refl
-lower_none (Some b) = refl
 
 lower_assoc : (a b c : Option ℕ) → lower (lower a b) c ≡ lower a (lower b c)
 lower_assoc None b c = refl
@@ -69,9 +64,9 @@ lowest_stands (x ∷ xs) a e = by (pulls x) (lowest_pulling xs) e (lowest_stands
 
     by : (p : Bool) (rest : Option ℕ) → lower (cond p (Some (address_of x)) None) rest ≡ Some a
         → ((k : ℕ) → rest ≡ Some k → stands k xs ≡ true) → stands a (x ∷ xs) ≡ true
-    by true None is more = let here : address_of x ≡ a = cc in or_true_left _ _ (eq-eqb (address_of x) a here)
+    by true None is more = let here : address_of x ≡ a = cc in or_left _ _ (eq-eqb (address_of x) a here)
     by true (Some b) is more = let m : min (address_of x) b ≡ a = cc in least b m more
-    by false rest is more = or_true_right (eqb (address_of x) a) _ (more a is)
+    by false rest is more = or_right (eqb (address_of x) a) _ (more a is)
 
 -- the lowest of a join that has both sides
 pub lowest_joined : (both : Bool) (l r : List Entry) (a b : Option ℕ) → both ≡ true → a ≡ lowest_pulling l → b ≡ lowest_pulling r

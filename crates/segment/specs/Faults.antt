@@ -4,6 +4,8 @@ use Rattle.std.specs.Prelude.{ℕ, ◌↔◌}
 use Rattle.std.proofs.Common.{lit<}
 use Rattle.alert.specs.declared.conditions.Conditions.{Conditions}
 use Rattle.alert.specs.Conditions.{Has}
+use Rattle.segment.specs.declared.faults.Layer.{Layer}
+use Rattle.segment.specs.declared.faults.Layer.TheVariants as layer
 use Rattle.segment.specs.declared.faults.StationFault.{StationFault}
 use Rattle.segment.specs.declared.faults.StationFault.TheVariants.{UnknownCommand, WrongCounts, WrongCode, UnlawfulData, WordOutOfRange, MissingPin}
 use Rattle.segment.specs.declared.faults.SegmentFault.{SegmentFault}
@@ -62,14 +64,19 @@ segment_number AlertCounts = 5
 segment_number NobodyPulls = 10
 segment_number (Station fault) = station_number fault
 
--- who refused: 2 the segment, 3 the station
-abbrev pub layer_of : SegmentFault → ℕ
-layer_of NoStation = 2
-layer_of NothingWritten = 2
-layer_of ShortBuffer = 2
-layer_of AlertCounts = 2
-layer_of NobodyPulls = 2
-layer_of (Station fault) = 3
+-- who refused: the segment, or the station
+abbrev pub layer_of : SegmentFault → Layer
+layer_of NoStation = layer.Segment
+layer_of NothingWritten = layer.Segment
+layer_of ShortBuffer = layer.Segment
+layer_of AlertCounts = layer.Segment
+layer_of NobodyPulls = layer.Segment
+layer_of (Station fault) = layer.Station
+
+-- the number of who refused: 2 the segment, 3 the station
+abbrev pub layer_number : Layer → ℕ
+layer_number layer.Segment = 2
+layer_number layer.Station = 3
 
 -- the set that it raises: only a station's refusal raises anything
 abbrev pub segment_raised : SegmentFault → Conditions

@@ -6,3 +6,4 @@ pub mod Segments
 pub mod Answers
 pub mod Winning
 pub mod Own
+pub mod Words

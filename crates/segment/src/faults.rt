@@ -1,14 +1,46 @@
 // Why a call is refused: by the station that it reached, or by the segment.
-ghost use Rattle.std.specs.Prelude.{◌≡◌};
-ghost use Rattle.segment.specs.Faults.{Same, layer_of, raised_by, segment_number, segment_raised, station_number};
+ghost use Rattle.std.specs.Prelude.{◌≡◌, Some};
+ghost use Rattle.segment.specs.Faults.{Same, layer_number, layer_of, raised_by, segment_number, segment_raised, station_number};
 ghost use Rattle.segment.specs.Requesting.{AsStationFault};
+ghost use Rattle.segment.specs.Words.{layer_words, segment_words, station_words};
 ghost use Rattle.segment.specs.declared.faults.SegmentFault.TheVariants.{Station};
 
 use alert::Conditions;
 use request::RequestRefusal;
+use std::fmt;
+
+// Who refused a call.
+#[derive(Clone, Copy, PartialEq, Eq, Debug)]
+pub enum Layer {
+    // The segment itself.
+    Segment = 2,
+    // The station that the call reached.
+    Station = 3,
+}
+
+impl Layer {
+    // The number that stands for the layer.
+    pub fn number(self) -> u8
+        ensures { result ≡ layer_number self }
+    {
+        self as u8
+    }
+}
+
+// The number of the layer, and its name. The number is a part of the words; what is printed and the number are each held by an edit.
+impl fmt::Display for Layer {
+    ghost output = { λ x. Some (layer_words x) };
+
+    fn fmt<W: fmt::Write>(&self, f: &mut fmt::Formatter<W>) -> fmt::Result {
+        f.write_str(match *self {
+            Layer::Segment => "layer 2, the segment",
+            Layer::Station => "layer 3, the station",
+        })
+    }
+}
 
 // Refused by the station. A refused transfer raises a set, which the fault holds.
-#[derive(Clone, Copy)]
+#[derive(Clone, Copy, PartialEq, Eq, Debug)]
 pub enum StationFault {
     // The station has no such command.
     UnknownCommand(Conditions),
@@ -25,7 +57,7 @@ pub enum StationFault {
 }
 
 impl StationFault {
-    // The number that stands for the refusal.
+    // The number that stands for the refusal: a match, since a variant that holds a set has no number of its own.
     pub fn number(self) -> u8
         ensures { result ≡ station_number self }
     {
@@ -40,6 +72,7 @@ impl StationFault {
     }
 
     // The set that the refused call raised.
+    #[tactic(auto, using(crate::proofs::Empties::empty_same))]
     pub fn raised(self) -> Conditions
         ensures { Same result (raised_by self) }
     {
@@ -53,7 +86,23 @@ impl StationFault {
     }
 }
 
-// A request that is refused by its counts or its code is a transfer that the station refuses, and raises condition 1.
+// Why the station refuses, in words.
+impl fmt::Display for StationFault {
+    ghost output = { λ x. Some (station_words x) };
+
+    fn fmt<W: fmt::Write>(&self, f: &mut fmt::Formatter<W>) -> fmt::Result {
+        f.write_str(match *self {
+            StationFault::UnknownCommand(_) => "unknown command",
+            StationFault::WrongCounts(_) => "wrong counts",
+            StationFault::WrongCode(_) => "wrong packet error code",
+            StationFault::UnlawfulData(_) => "unlawful data",
+            StationFault::WordOutOfRange => "a word is out of range",
+            StationFault::MissingPin => "no such pin",
+        })
+    }
+}
+
+// A request that is refused by its counts or its code is a transfer that the station refuses, and raises communication, memory or logic (condition 1).
 impl From<RequestRefusal> for StationFault {
     ghost from_gives = { AsStationFault };
 
@@ -66,7 +115,7 @@ impl From<RequestRefusal> for StationFault {
 }
 
 // Refused by the segment, or by the station that the call reached.
-#[derive(Clone, Copy)]
+#[derive(Clone, Copy, PartialEq, Eq, Debug)]
 pub enum SegmentFault {
     // No station of the segment has the address.
     NoStation,
@@ -78,11 +127,12 @@ pub enum SegmentFault {
     AlertCounts,
     // No station pulls the alert line.
     NobodyPulls,
+    // The station that the call reached refuses it.
     Station(StationFault),
 }
 
 impl SegmentFault {
-    // The number that stands for the refusal.
+    // The number that stands for the refusal: a match, since a station's refusal has the number that the station gave it.
     pub fn number(self) -> u8
         ensures { result ≡ segment_number self }
     {
@@ -96,8 +146,8 @@ impl SegmentFault {
         }
     }
 
-    // Who refused: 2 the segment, 3 the station.
-    pub fn layer(self) -> u8
+    // Who refused: the segment, or the station.
+    pub fn layer(self) -> Layer
         ensures { result ≡ layer_of self }
     {
         match self {
@@ -105,12 +155,13 @@ impl SegmentFault {
             | SegmentFault::NothingWritten
             | SegmentFault::ShortBuffer
             | SegmentFault::AlertCounts
-            | SegmentFault::NobodyPulls => 2,
-            SegmentFault::Station(_) => 3,
+            | SegmentFault::NobodyPulls => Layer::Segment,
+            SegmentFault::Station(_) => Layer::Station,
         }
     }
 
     // The set that the refused call raised.
+    #[tactic(auto, using(crate::proofs::Empties::empty_same))]
     pub fn raised(self) -> Conditions
         ensures { Same result (segment_raised self) }
     {
@@ -125,6 +176,23 @@ impl SegmentFault {
     }
 }
 
+// Why the call is refused, in words: a station's refusal in the station's own.
+impl fmt::Display for SegmentFault {
+    ghost output = { λ x. Some (segment_words x) };
+
+    fn fmt<W: fmt::Write>(&self, f: &mut fmt::Formatter<W>) -> fmt::Result {
+        match *self {
+            SegmentFault::NoStation => f.write_str("no station at that address"),
+            SegmentFault::NothingWritten => f.write_str("nothing is written"),
+            SegmentFault::ShortBuffer => f.write_str("the reply buffer is too short"),
+            SegmentFault::AlertCounts => f.write_str("an alert read wants one byte or two"),
+            SegmentFault::NobodyPulls => f.write_str("nobody pulls"),
+            SegmentFault::Station(fault) => fault.fmt(f),
+        }
+    }
+}
+
+// A station's refusal is passed up.
 impl From<StationFault> for SegmentFault {
     ghost from_gives = { λ fault r. r ≡ Station fault };
 

@@ -8,7 +8,7 @@ mod segments;
 mod stations;
 
 pub use arbitration::AlertWinner;
-pub use faults::{SegmentFault, StationFault};
+pub use faults::{Layer, SegmentFault, StationFault};
 pub use samples::Sample;
 pub use segments::{JoinAnswer, Reply, Segment};
 pub use stations::Station;

@@ -1,7 +1,7 @@
 // One set of readings, as a station is given it.
 
 // Five plain words, each as a converter would give it, and a word of pins. A station judges them itself.
-#[derive(Clone, Copy)]
+#[derive(Clone, Copy, PartialEq, Eq, Debug)]
 pub struct Sample {
     pub vin: u16,
     pub vout: u16,

@@ -1,11 +1,12 @@
 // Stations on one alert line, joined in any way.
-ghost use Rattle.std.specs.Prelude.{◌≡◌, ℕ, ◌-◌, ◌^◌, ◌≤◌, min, Bool, true, ◌||◌, List, ◌++◌, length, drop, Option, Result, ◌==◌};
+ghost use Rattle.std.specs.Prelude.{◌≡◌, ℕ, ◌-◌, ◌^◌, ◌≤◌, min, Bool, true, ◌||◌, List, ◌++◌, length, drop, Some, Option, Result, ◌==◌};
 ghost use Rattle.smbus.specs.declared.address.Address.{Address};
 ghost use Rattle.alert.specs.declared.conditions.Conditions.{Conditions};
 ghost use Rattle.alert.specs.declared.entries.Entry.{Entry};
 ghost use Rattle.segment.specs.Answers.{BySegment, address_in, join_number};
 ghost use Rattle.segment.specs.Segments.{alert_reply, ReadsAlert, Answered, Sampled, Transferred, lowest_pulling, some_pull, stands, written_over};
 ghost use Rattle.segment.specs.Winning.{Won};
+ghost use Rattle.segment.specs.Words.{join_words};
 ghost use Rattle.segment.specs.declared.arbitration.AlertWinner.{AlertWinner};
 ghost use Rattle.segment.specs.declared.faults.SegmentFault.{SegmentFault};
 ghost use Rattle.segment.specs.declared.samples.Sample.{Sample};
@@ -16,17 +17,19 @@ use crate::faults::SegmentFault;
 use crate::samples::Sample;
 use alert::{Conditions, Entry};
 use smbus::{Address, code};
+use std::fmt;
 
 // The length of a reply, and the set that was raised.
+// The project has it as a pair that passes up unchanged from a station through every join.
 pub type Reply = (usize, Conditions);
 
 // What a join answers about itself.
-#[derive(Clone, Copy)]
+#[derive(Clone, Copy, PartialEq, Eq, Debug)]
 pub enum JoinAnswer {
     // It has both sides.
-    Joined,
+    Joined = 0,
     // An address stands on both sides; it has the left side alone.
-    Clash,
+    Clash = 12,
 }
 
 impl JoinAnswer {
@@ -34,15 +37,25 @@ impl JoinAnswer {
     pub fn number(self) -> u8
         ensures { result ≡ join_number self }
     {
-        match self {
-            JoinAnswer::Joined => 0,
-            JoinAnswer::Clash => 12,
-        }
+        self as u8
+    }
+}
+
+// The number of the answer, and what it says. The number is a part of the words; what is printed and the number are each held by an edit.
+impl fmt::Display for JoinAnswer {
+    ghost output = { λ x. Some (join_words x) };
+
+    fn fmt<W: fmt::Write>(&self, f: &mut fmt::Formatter<W>) -> fmt::Result {
+        f.write_str(match *self {
+            JoinAnswer::Joined => "0, both sides are joined",
+            JoinAnswer::Clash => "12, an address stands on both sides: the left side alone",
+        })
     }
 }
 
 // A segment means its list of entries, left side first. Each call shows what every station shows, at the first entry with its
 // address, and besides follows the own rule of the station that it reached.
+// The clauses `still` and `joint` stand at each call: they relate the segment before to the one after, as no invariant of one segment can.
 pub trait Segment {
     // One entry for each station, left side first.
     ghost entries: { Self → List Entry };
@@ -59,14 +72,15 @@ pub trait Segment {
     // Of the answer to an alert read: before, the address that answers, after.
     ghost answers: { Self → ℕ → Self → Type 0 };
 
-    // Gives a sample to the station at an address; refused by 1, and by the station.
+    // Gives a sample to the station at an address; refused by NoStation, and by the station.
     fn sample(&mut self, address: u8, sample: Sample) -> Result<Conditions, SegmentFault>
         ensures own { samples self.old address sample result self.new }
         ensures effects { Sampled address (entries self.old) result (entries self.new) }
         ensures still { BySegment result → self.new ≡ self.old }
         ensures joint { joining self.new ≡ joining self.old };
 
-    // Performs a transfer with the station at an address; refused by 1, 2, 3, and by the station.
+    // Performs a transfer with the station at an address; refused by NoStation, NothingWritten and ShortBuffer, and by the station.
+    // Written bytes, wanted count and reply buffer are no struct, since the law speaks of each alone; the count is not the buffer's length, which may be greater.
     fn transfer(
         &mut self,
         address: u8,
@@ -98,7 +112,7 @@ pub trait Segment {
     fn count(&self) -> usize
         ensures { result ≡ min (length (entries self.now)) (2 ^ 64 - 1) };
 
-    // Writes the entries over the first places of a buffer, as many as fit, and says how many it wrote.
+    // Writes the entries over the first places of a buffer, as many as fit, and says how many it wrote: a segment does not allocate.
     fn write_entries(&self, into: &mut [Entry]) -> usize
         ensures count { result ≡ min (length (entries self.now)) (length into.old) }
         ensures items { into.new ≡ written_over (entries self.now) into.old };
@@ -108,13 +122,14 @@ pub trait Segment {
         ensures { result ≡ joining self.now };
 
     // Whether the alert line is low: some station pulls.
+    #[tactic(auto, using(crate::proofs::Pulling::address_in_some, crate::proofs::Pulling::lowest_some))]
     fn line_is_low(&self) -> bool
         ensures { result ≡ some_pull (entries self.now) }
     {
         self.lowest_pulling().is_some()
     }
 
-    // Reads the alert response address: refused by 5, 3 and 10, else the lowest address that pulls answers.
+    // Reads the alert response address: refused by AlertCounts, ShortBuffer and NobodyPulls, else the lowest address that pulls answers.
     fn alert_read(&mut self, wanted: usize, reply: &mut [u8]) -> Result<Reply, SegmentFault>
         ensures own { Won (answers self.old) (lowest_pulling (entries self.old)) result self.old self.new }
         ensures effects { ReadsAlert wanted (entries self.old) reply.old result reply.new (entries self.new) }
@@ -126,9 +141,7 @@ pub trait Segment {
         if reply.len() < wanted {
             return Err(SegmentFault::ShortBuffer);
         }
-        let Some(address) = self.lowest_pulling() else {
-            return Err(SegmentFault::NobodyPulls);
-        };
+        let address = self.lowest_pulling().ok_or(SegmentFault::NobodyPulls)?;
         self.answer(AlertWinner::new(address))?;
         write_alert_reply(address, wanted, reply);
         Ok((wanted, Conditions::empty()))
@@ -139,7 +152,7 @@ pub trait Segment {
 fn is_alert_count(wanted: usize) -> bool
     ensures { result ≡ (wanted == 1 || wanted == 2) }
 {
-    wanted == 1 || wanted == 2
+    matches!(wanted, 1 | 2)
 }
 
 // The byte that begins a read of the alert response address, 0Ch.

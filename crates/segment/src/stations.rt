@@ -40,12 +40,12 @@ pub trait Station {
         ensures own { powers self.old self.new }
         ensures effects { Powered (shown self.old) (shown self.new) };
 
-    // Takes a sample, or refuses it by 8 or 9.
+    // Takes a sample, or refuses it by WordOutOfRange or MissingPin.
     fn sample(&mut self, sample: Sample) -> Result<Conditions, StationFault>
         ensures own { samples self.old sample result self.new }
         ensures effects { Sampled (shown self.old) result (shown self.new) };
 
-    // Performs a transfer that wants as many bytes as the reply buffer has, or refuses it by 4 to 7.
+    // Performs a transfer that wants as many bytes as the reply buffer has, or refuses it by UnknownCommand, WrongCounts, WrongCode or UnlawfulData.
     fn transfer(&mut self, request: Request, reply: &mut [u8]) -> Result<Reply, StationFault>
         ensures own { transfers self.old request reply.old result reply.new self.new }
         ensures effects { Transferred request (shown self.old) reply.old result reply.new (shown self.new) };

@@ -1,12 +1,12 @@
 -- A call to a join, from the call to its left side and, where that misses, to its right side.
 -- Assumes nothing.
 use Rattle.std.proofs.Common.{◌≡◌, ℕ, Bool, true, false, ◌||◌, List, ◌++◌, sym, refl, ap, ◌∙◌, subst, inl, inr}
-use borrow.Author.Tests.{both_ways}
+use Rattle.std.proofs.lemmas.Bool.{both_ways, or_from, or_left}
 use Rattle.alert.specs.declared.entries.Entry.{Entry}
 use Rattle.segment.specs.Own.{OnSide}
 use Rattle.segment.specs.Segments.{At, CallAt, joined_entries, stands}
 use Rattle.segment_join.specs.declared.joins.Join.{Join}
-use Rattle.segment.proofs.Places.{at_left, at_right, at_some, at_stands, or_false, or_true_left, stands_append}
+use Rattle.segment.proofs.Places.{at_left, at_right, at_some, at_stands, stands_append}
 
 module _ (a : ℕ) where
   -- the left side answers, or there is no right side
@@ -24,7 +24,7 @@ module _ (a : ℕ) where
   on_right true l l' r r' Missed Missed' R R' joint misses (inr at) right =
       let (x, y, changed) = at_some a R l l' at in absurd (misses x y changed)
   on_right true l l' r r' Missed Missed' R R' joint misses (inl (none, missed, same)) (inl (none', missed', same')) =
-      inl (stands_append a l r ∙ or_false _ _ none none', missed', ap (λ (z : List Entry). z ++ r') same ∙ ap (λ (z : List Entry). l ++ z) same')
+      inl (stands_append a l r ∙ or_from _ _ none none', missed', ap (λ (z : List Entry). z ++ r') same ∙ ap (λ (z : List Entry). l ++ z) same')
   on_right true l l' r r' Missed Missed' R R' joint misses (inl (none, missed, same)) (inr at) =
       inr (subst (λ z. At a R' (l ++ r) (z ++ r')) (sym same) (at_right a R' l r r' none at))
 
@@ -51,7 +51,7 @@ own_right false false L R left_same right_same none joint rule same = absurd (bo
 
 -- where an address stands on a join
 pub holds_left : (a : ℕ) (both : Bool) (l r : List Entry) → stands a l ≡ true → stands a (joined_entries both l r) ≡ true
-holds_left a true l r e = stands_append a l r ∙ or_true_left _ _ e
+holds_left a true l r e = stands_append a l r ∙ or_left _ _ e
 holds_left a false l r e = e
 
 pub holds_right : (a : ℕ) (both : Bool) (l r : List Entry) → stands a l ≡ false → both ≡ true → stands a (joined_entries both l r) ≡ stands a r

@@ -1,8 +1,8 @@
 // Two segments as one.
-ghost use Rattle.std.specs.Prelude.{◌≡◌, true, false, not, ◌&&◌, List, ◌++◌};
+ghost use Rattle.std.specs.Prelude.{◌≡◌, true, false, not, ◌&&◌, MatchOption};
 ghost use Rattle.segment.specs.Own.{OnSide, side_answer};
-ghost use Rattle.segment.specs.Answers.{BySegment, address_in, is_missed};
-ghost use Rattle.segment.specs.Segments.{Built, Transferred, clash, joined_entries, lower, stands};
+ghost use Rattle.segment.specs.Answers.{address_in, is_missed};
+ghost use Rattle.segment.specs.Segments.{Built, clash, joined_entries, lower, stands};
 
 use alert::{Conditions, Entry};
 use segment::{AlertWinner, JoinAnswer, Reply, Sample, Segment, SegmentFault};
@@ -13,6 +13,7 @@ use smbus::Address;
 pub struct Join<L, R> {
     left: L,
     right: R,
+    // Beside the right side and not an Option of it: a right side that clashes is kept, since letting it go would ask `R: Drop` of callers.
     both: bool,
 }
 
@@ -27,9 +28,25 @@ impl<L: Segment, R: Segment> Join<L, R> {
         let both = fit(&left, &right);
         Join { left, right, both }
     }
+
+    // Whether a call goes on to the right side: there is one, and the call reached no station on the left.
+    // The three calls that ask this are written out: a closure for the right side's call is no shorter than its if.
+    fn goes_on<A>(&self, answer: &Result<A, SegmentFault>) -> bool
+        ensures { result ≡ (self.now.both && is_missed answer.now) }
+    {
+        self.both && matches!(answer, Err(SegmentFault::NoStation))
+    }
+
+    // The right side, where it is on the line.
+    fn right_on_line(&self) -> Option<&R>
+        ensures { MatchOption result (self.now.both ≡ false) (λ right. (self.now.both ≡ true) × (right.now ≡ self.now.right)) }
+    {
+        self.both.then_some(&self.right)
+    }
 }
 
-// Whether all addresses of the two are unlike, so that both can be on one line.
+// Whether all addresses of the two are unlike, so that both can be on one line. Apart from `new`, which takes the two: here they are only asked.
+#[tactic(auto, using(crate::proofs::Clashing::built_joined))]
 fn fit<L: Segment, R: Segment>(left: &L, right: &R) -> bool
     ensures value { result ≡ not (clash (L.Segment.entries left.now) (R.Segment.entries right.now)) }
     ensures built { Built (L.Segment.entries left.now) → Built (R.Segment.entries right.now) → Built (joined_entries result (L.Segment.entries left.now) (R.Segment.entries right.now)) }
@@ -44,52 +61,17 @@ const ADDRESSES: u8 = 0x80;
 fn share_address<L: Segment, R: Segment>(left: &L, right: &R) -> bool
     ensures { result ≡ clash (L.Segment.entries left.now) (R.Segment.entries right.now) }
 {
-    for address in 0..ADDRESSES {
-        if left.holds(address) && right.holds(address) {
-            return true;
-        }
-    }
-    false
-}
-
-// Whether a call goes on to the right side: there is one, and the call reached no station on the left.
-fn goes_on<A>(both: bool, answer: &Result<A, SegmentFault>) -> bool
-    ensures { result ≡ (both && is_missed answer.now) }
-{
-    both && matches!(answer, Err(SegmentFault::NoStation))
+    (0..ADDRESSES).any(|address| left.holds(address) && right.holds(address))
 }
 
 // The lower of two addresses, if there is one.
 fn lower_address(left: Option<Address>, right: Option<Address>) -> Option<Address>
     ensures { address_in result ≡ lower (address_in left) (address_in right) }
 {
-    let Some(a) = left else {
-        return right;
-    };
-    let Some(b) = right else {
-        return left;
-    };
-    if b.byte() < a.byte() { right } else { left }
-}
-
-// A transfer to the left side, or where no station there has the address, to the right side.
-fn transfer_sides<L: Segment, R: Segment>(
-    join: &mut Join<L, R>,
-    address: u8,
-    written: &[u8],
-    wanted: usize,
-    reply: &mut [u8],
-) -> Result<Reply, SegmentFault>
-    ensures own { OnSide (stands address (L.Segment.entries join.old.left)) join.old.both (L.Segment.transfers join.old.left address written.now wanted reply.old result reply.new join.new.left) (R.Segment.transfers join.old.right address written.now wanted reply.old result reply.new join.new.right) (join.new.left ≡ join.old.left) (join.new.right ≡ join.old.right) }
-    ensures effects { Transferred address written.now wanted (joined_entries join.old.both (L.Segment.entries join.old.left) (R.Segment.entries join.old.right)) reply.old result reply.new (joined_entries join.new.both (L.Segment.entries join.new.left) (R.Segment.entries join.new.right)) }
-    ensures still { BySegment result → join.new ≡ join.old }
-    ensures joint { side_answer join.new.both ≡ side_answer join.old.both }
-{
-    let answer = join.left.transfer(address, written, wanted, reply);
-    if goes_on(join.both, &answer) {
-        return join.right.transfer(address, written, wanted, reply);
+    match (left, right) {
+        (Some(first), Some(second)) if second.byte() < first.byte() => right,
+        _ => left.or(right),
     }
-    answer
 }
 
 impl<L: Segment, R: Segment> Segment for Join<L, R> {
@@ -105,7 +87,7 @@ impl<L: Segment, R: Segment> Segment for Join<L, R> {
 
     fn sample(&mut self, address: u8, sample: Sample) -> Result<Conditions, SegmentFault> {
         let answer = self.left.sample(address, sample);
-        if goes_on(self.both, &answer) {
+        if self.goes_on(&answer) {
             return self.right.sample(address, sample);
         }
         answer
@@ -118,44 +100,45 @@ impl<L: Segment, R: Segment> Segment for Join<L, R> {
         wanted: usize,
         reply: &mut [u8],
     ) -> Result<Reply, SegmentFault> {
-        transfer_sides(self, address, written, wanted, reply)
+        let replied = self.left.transfer(address, written, wanted, reply);
+        if self.goes_on(&replied) {
+            return self.right.transfer(address, written, wanted, reply);
+        }
+        replied
     }
 
     fn answer(&mut self, winner: AlertWinner) -> Result<(), SegmentFault> {
         let answer = self.left.answer(winner);
-        if goes_on(self.both, &answer) {
+        if self.goes_on(&answer) {
             return self.right.answer(winner);
         }
         answer
     }
 
+    #[tactic(auto, using(crate::proofs::Sides::holds_left, crate::proofs::Sides::holds_right))]
     fn holds(&self, address: u8) -> bool {
-        self.left.holds(address) || self.both && self.right.holds(address)
+        self.left.holds(address)
+            || self
+                .right_on_line()
+                .is_some_and(|right| right.holds(address))
     }
 
+    #[tactic(auto, using(segment::proofs::Pulling::lowest_joined))]
     fn lowest_pulling(&self) -> Option<Address> {
-        let left = self.left.lowest_pulling();
-        if !self.both {
-            return left;
-        }
-        lower_address(left, self.right.lowest_pulling())
+        let right = self.right_on_line().and_then(R::lowest_pulling);
+        lower_address(self.left.lowest_pulling(), right)
     }
 
     fn count(&self) -> usize {
-        let left = self.left.count();
-        if self.both {
-            left.saturating_add(self.right.count())
-        } else {
-            left
-        }
+        let right = self.right_on_line().map_or(0, R::count);
+        self.left.count().saturating_add(right)
     }
 
     fn write_entries(&self, into: &mut [Entry]) -> usize {
         let start = self.left.write_entries(into);
-        if self.both {
-            start + self.right.write_entries(&mut into[start..])
-        } else {
-            start
+        match self.right_on_line() {
+            Some(right) => start + right.write_entries(&mut into[start..]),
+            None => start,
         }
     }
 

@@ -1,9 +1,10 @@
 // A station as a segment of its own.
-ghost use Rattle.std.specs.Prelude.{◌≡◌, true, false, List, [], ◌∷◌, None, ◌==◌};
+ghost use Rattle.std.specs.Prelude.{◌≡◌, true, false, [], ◌∷◌, None, ◌==◌, MatchResult};
 ghost use Rattle.alert.specs.Entries.{address_of};
 ghost use Rattle.segment.specs.Own.{OwnAnswer, OwnSample, OwnTransfer};
 ghost use Rattle.segment.specs.Answers.{BySegment};
 ghost use Rattle.segment.specs.Segments.{Built, TransferredAt};
+ghost use Rattle.segment.specs.declared.faults.SegmentFault.TheVariants.{NoStation};
 
 use alert::{Conditions, Entry};
 use request::take_apart;
@@ -27,6 +28,17 @@ impl<T: Station> Single<T> {
         single.station.power_up();
         single
     }
+
+    // That a call at an address reaches the station.
+    fn reached(&self, address: u8) -> Result<(), SegmentFault>
+        ensures { MatchResult result (λ _. (address_of (T.Station.shown self.now.station) == address) ≡ true) (λ fault. ((address_of (T.Station.shown self.now.station) == address) ≡ false) × (fault ≡ NoStation)) }
+    {
+        if self.holds(address) {
+            Ok(())
+        } else {
+            Err(SegmentFault::NoStation)
+        }
+    }
 }
 
 // A transfer to a station: something must be written, and the reply buffer must be as long as the wanted count; then the station judges.
@@ -40,9 +52,7 @@ fn checked_transfer<T: Station>(
     ensures effects { TransferredAt written.now wanted reply.old result reply.new (T.Station.shown station.old) (T.Station.shown station.new) }
     ensures still { BySegment result → station.new ≡ station.old }
 {
-    let Some(request) = take_apart(written) else {
-        return Err(SegmentFault::NothingWritten);
-    };
+    let request = take_apart(written).ok_or(SegmentFault::NothingWritten)?;
     if reply.len() < wanted {
         return Err(SegmentFault::ShortBuffer);
     }
@@ -61,9 +71,7 @@ impl<T: Station> Segment for Single<T> {
     ghost answers = { λ s a t. OwnAnswer (address_of (T.Station.shown s.station) == a) (T.Station.answers s.station t.station) s t };
 
     fn sample(&mut self, address: u8, sample: Sample) -> Result<Conditions, SegmentFault> {
-        if !self.holds(address) {
-            return Err(SegmentFault::NoStation);
-        }
+        self.reached(address)?;
         Ok(self.station.sample(sample)?)
     }
 
@@ -74,16 +82,12 @@ impl<T: Station> Segment for Single<T> {
         wanted: usize,
         reply: &mut [u8],
     ) -> Result<Reply, SegmentFault> {
-        if !self.holds(address) {
-            return Err(SegmentFault::NoStation);
-        }
+        self.reached(address)?;
         checked_transfer(&mut self.station, written, wanted, reply)
     }
 
     fn answer(&mut self, winner: AlertWinner) -> Result<(), SegmentFault> {
-        if !self.holds(winner.address().byte()) {
-            return Err(SegmentFault::NoStation);
-        }
+        self.reached(winner.address().byte())?;
         self.station.answer_alert();
         Ok(())
     }
@@ -94,11 +98,7 @@ impl<T: Station> Segment for Single<T> {
 
     fn lowest_pulling(&self) -> Option<Address> {
         let entry = self.station.entry();
-        if entry.pulls() {
-            Some(entry.address())
-        } else {
-            None
-        }
+        entry.pulls().then(|| entry.address())
     }
 
     fn count(&self) -> usize {
@@ -106,10 +106,10 @@ impl<T: Station> Segment for Single<T> {
     }
 
     fn write_entries(&self, into: &mut [Entry]) -> usize {
-        if into.len() == 0 {
+        let Some(first) = into.first_mut() else {
             return 0;
-        }
-        into[0] = self.station.entry();
+        };
+        *first = self.station.entry();
         1
     }
 

@@ -1,6 +1,7 @@
 -- The lowest address that pulls stands on the segment, so it answers.
-use Rattle.std.proofs.Common.{sym, refl, subst, le-ltb}
+use Rattle.std.proofs.Common.{sym, refl, ap, ◌∙◌, subst, le-ltb}
 use Rattle.smbus.specs.declared.address.Address.{Address}
+use Rattle.segment.specs.Answers.{address_in}
 use Rattle.segment.specs.Segments.{Answered}
 use Rattle.segment.proofs.Missing.{ok_or_err}
 use Rattle.segment.proofs.Pulling.{alert_made, winner_answers}
@@ -9,18 +10,19 @@ use Rattle.segment.proofs.segments.Segment.alert_read.Goals as goal
 pub returns-in_err-answer : goal.returns-in_err-answer
 returns-in_err-answer g c =
     let xs = g.Self.Segment.entries c.args.self.now in
-    let a = c.in-Some.address.byte in
+    let a = c.in_ok-address.address.byte in
+    let lowest = sym c.lowest_pulling.ensures ∙ ap address_in c.in_ok-address.ensures.ok_part in
     let won = c.answer.ensures.effects in
     let won' = subst (λ (k : Address). Answered k.byte xs c.answer.result (g.Self.Segment.entries c.answer.new.self)) c.new.ensures won in
-    let answered = winner_answers xs _ a c.answer.result (sym c.in-Some.ensures) won' in
+    let answered = winner_answers xs _ a c.answer.result lowest won' in
     let was = c.in_err-answer.was in
     absurd (ok_or_err c.answer.result _ answered.0 was)
 
 pub returns : goal.returns
 returns g c =
     let xs = g.Self.Segment.entries c.args.self.now in
-    let a = c.in-Some.address.byte in
-    let lowest = sym c.in-Some.ensures in
+    let a = c.in_ok-address.address.byte in
+    let lowest = sym c.lowest_pulling.ensures ∙ ap address_in c.in_ok-address.ensures.ok_part in
     let won = subst (λ (k : Address). Answered k.byte xs c.answer.result (g.Self.Segment.entries c.answer.new.self)) c.new.ensures c.answer.ensures.effects in
     let answered = winner_answers xs _ a c.answer.result lowest won in
     record {

@@ -1,2 +1,0 @@
--- What the proofs share.
-mod Passing
