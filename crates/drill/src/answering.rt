@@ -1,9 +1,9 @@
-// What was answered, in print.
-use crate::bytes::print_bytes;
+// What was answered, in print: functions and no Display, since each text is printed in one place, and a type around each would only add an impl to it.
 use alert::Conditions;
 use history::{Answer, Call, Turn};
-use segment::{JoinAnswer, Reply, SegmentFault, StationFault};
+use segment::{JoinAnswer, Reply, SegmentFault};
 use std::io;
+use text::Spaced;
 
 // Prints the answer of a turn.
 pub fn print_answer(rt: &HostRuntime, turn: &Turn<'_>) -> io::Result<()> {
@@ -11,20 +11,19 @@ pub fn print_answer(rt: &HostRuntime, turn: &Turn<'_>) -> io::Result<()> {
         Answer::Sampled(answer) => print_sampled(rt, answer),
         Answer::Replied(answer) => print_replied(rt, turn, answer),
         Answer::Present(present) => rt.print(if present { "yes" } else { "no" }),
-        Answer::Entries => print_count(rt, turn.after.entries.len()),
+        Answer::Entries => {
+            let count = turn.after.entries.len();
+            print!(rt; "entries: {count}")
+        }
         Answer::Low(low) => rt.print(level(low)),
-        Answer::Joined(answer) => rt.print(join_words(answer)),
+        Answer::Joined(answer) => print_joined(rt, answer),
     }
 }
 
 // The word for the level of the line.
+// Whether the line is low is a test and no type of its own: a Display for one would say no more than this line.
 pub fn level(low: bool) -> &'static str {
     if low { "low" } else { "high" }
-}
-
-// Prints how many entries there are; they are printed after the turn.
-fn print_count(rt: &HostRuntime, count: usize) -> io::Result<()> {
-    print!(rt; "entries: {count}")
 }
 
 // Prints the answer to a sample.
@@ -53,67 +52,28 @@ fn print_reply(rt: &HostRuntime, turn: &Turn<'_>, reply: Reply) -> io::Result<()
     let Some(bytes) = turn.after.reply.get(0..count) else {
         return rt.print("accepted, with a reply that is not in the buffer");
     };
+    let spaced = Spaced(bytes);
     match (turn.call, bytes) {
         (Call::AlertRead(_), [first, ..]) => {
             let address = *first / 2;
-            print!(rt; "{address:02X}h answers:")?;
-            print_bytes(rt, bytes)
+            print!(rt; "{address:02X}h answers:{spaced}")
         }
-        _ => {
-            print!(rt; "accepted, {count} bytes")?;
-            print_bytes(rt, bytes)?;
-            print!(rt; ", raised {raised}")
-        }
+        _ => print!(rt; "accepted, {count} bytes{spaced}, raised {raised}"),
     }
 }
 
 // Prints a refusal: its number, who refused, why, and what it raised.
 fn print_fault(rt: &HostRuntime, fault: SegmentFault) -> io::Result<()> {
     let number = fault.number();
-    let by = refuser(fault);
-    let why = reason(fault);
+    let layer = fault.layer();
     let raised = fault.raised();
-    print!(rt; "refused {number} by {by}: {why}, raised {raised}")
+    print!(rt; "refused {number} by {layer}: {fault}, raised {raised}")
 }
 
-// Who refused, in words.
-fn refuser(fault: SegmentFault) -> &'static str {
-    if fault.layer() == 2 {
-        "layer 2, the segment"
-    } else {
-        "layer 3, the station"
-    }
-}
-
-// Why a call is refused, in words.
-fn reason(fault: SegmentFault) -> &'static str {
-    match fault {
-        SegmentFault::NoStation => "no station at that address",
-        SegmentFault::NothingWritten => "nothing is written",
-        SegmentFault::ShortBuffer => "the reply buffer is too short",
-        SegmentFault::AlertCounts => "an alert read wants one byte or two",
-        SegmentFault::NobodyPulls => "nobody pulls",
-        SegmentFault::Station(fault) => station_reason(fault),
-    }
-}
-
-// Why a station refuses, in words.
-fn station_reason(fault: StationFault) -> &'static str {
-    match fault {
-        StationFault::UnknownCommand(_) => "unknown command",
-        StationFault::WrongCounts(_) => "wrong counts",
-        StationFault::WrongCode(_) => "wrong packet error code",
-        StationFault::UnlawfulData(_) => "unlawful data",
-        StationFault::WordOutOfRange => "a word is out of range",
-        StationFault::MissingPin => "no such pin",
-    }
-}
-
-// What the join answers, in words.
-fn join_words(answer: Option<JoinAnswer>) -> &'static str {
+// Prints what the join answers.
+fn print_joined(rt: &HostRuntime, answer: Option<JoinAnswer>) -> io::Result<()> {
     match answer {
-        None => "not a join",
-        Some(JoinAnswer::Joined) => "0, both sides are joined",
-        Some(JoinAnswer::Clash) => "12, an address stands on both sides: the left side alone",
+        Some(answer) => rt.print(answer),
+        None => rt.print("not a join"),
     }
 }

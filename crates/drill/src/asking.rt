@@ -1,14 +1,20 @@
-// What was asked, in print.
-use crate::bytes::print_bytes;
+// What was asked, in print: functions and no Display, since each text is printed in one place, and a type around each would only add an impl to it.
 use history::{Call, Question};
 use segment::Sample;
 use std::io;
+use text::Spaced;
 
 // Prints what a call asks.
 pub fn print_call(rt: &HostRuntime, call: Call<'_>) -> io::Result<()> {
     match call {
         Call::Sample(address, sample) => print_sample(rt, address, sample),
-        Call::Transfer(address, written, wanted) => print_transfer(rt, address, written, wanted),
+        Call::Transfer(address, [], wanted) => {
+            print!(rt; "transfer {address:02X}h: write nothing, want {wanted}")
+        }
+        Call::Transfer(address, written, wanted) => {
+            let bytes = Spaced(written);
+            print!(rt; "transfer {address:02X}h: write{bytes}, want {wanted}")
+        }
         Call::AlertRead(wanted) => print!(rt; "alert read, want {wanted}"),
         Call::Ask(question) => print_question(rt, question),
     }
@@ -16,29 +22,16 @@ pub fn print_call(rt: &HostRuntime, call: Call<'_>) -> io::Result<()> {
 
 // Prints a sample: its five words and its pins.
 fn print_sample(rt: &HostRuntime, address: u8, sample: Sample) -> io::Result<()> {
-    print!(rt; "sample {address:02X}h: words")?;
-    print_word(rt, sample.vin)?;
-    print_word(rt, sample.vout)?;
-    print_word(rt, sample.iin)?;
-    print_word(rt, sample.vaux)?;
-    print_word(rt, sample.temperature)?;
-    rt.print(", pins")?;
-    print_word(rt, sample.pins)
-}
-
-// Prints a word as a space and four hexadecimal digits.
-fn print_word(rt: &HostRuntime, word: u16) -> io::Result<()> {
-    print!(rt; " {word:04X}")
-}
-
-// Prints a transfer: the bytes written, and how many are wanted.
-fn print_transfer(rt: &HostRuntime, address: u8, written: &[u8], wanted: usize) -> io::Result<()> {
-    print!(rt; "transfer {address:02X}h: write")?;
-    if written.is_empty() {
-        rt.print(" nothing")?;
-    }
-    print_bytes(rt, written)?;
-    print!(rt; ", want {wanted}")
+    let Sample {
+        vin,
+        vout,
+        iin,
+        vaux,
+        temperature,
+        pins,
+    } = sample;
+    print!(rt; "sample {address:02X}h: words {vin:04X} {vout:04X} {iin:04X} {vaux:04X}")?;
+    print!(rt; " {temperature:04X}, pins {pins:04X}")
 }
 
 // Prints a question.

@@ -43,7 +43,7 @@ const WARNINGS_4_AND_5: Sample = Sample {
 };
 
 // The calls on three stations, 10h, 12h and 14h.
-pub const CALLS: [Call<'static>; 55] = [
+pub const CALLS: &[Call<'static>] = &[
     // Who is there.
     Call::Ask(Question::Join),
     Call::Ask(Question::Address(0x12)),
@@ -111,7 +111,7 @@ pub const CALLS: [Call<'static>; 55] = [
 ];
 
 // The calls on a join of two stations at 10h.
-pub const CLASH_CALLS: [Call<'static>; 9] = [
+pub const CLASH_CALLS: &[Call<'static>] = &[
     Call::Ask(Question::Join),
     Call::Ask(Question::Address(0x10)),
     Call::Ask(Question::Entries),

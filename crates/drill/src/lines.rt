@@ -1,16 +1,16 @@
-// The lines of a history.
+// The lines of a history: functions and no Display, since each text is printed in one place, and a type around each would only add an impl to it.
 use crate::answering::{level, print_answer};
 use crate::asking::print_call;
-use crate::bytes::{print_byte, print_bytes};
 use alert::Entry;
 use history::{Answer, History, Moment, Turn};
 use std::io;
+use text::Spaced;
 
 // Prints a line for what shows as built, and a line for each turn.
 pub fn print_history(rt: &HostRuntime, history: &History<'_>) -> io::Result<()> {
     rt.print("as built")?;
     print_moment(rt, &history.start)?;
-    for turn in history.turns.iter() {
+    for turn in &history.turns {
         print_turn(rt, turn)?;
     }
     Ok(())
@@ -23,7 +23,9 @@ fn print_turn(rt: &HostRuntime, turn: &Turn<'_>) -> io::Result<()> {
     print_answer(rt, turn)?;
     print_moment(rt, &turn.after)?;
     if let Answer::Entries = turn.answer {
-        print_entries(rt, turn.after.entries.as_slice())?;
+        for entry in &turn.after.entries {
+            print_entry(rt, entry)?;
+        }
     }
     Ok(())
 }
@@ -34,33 +36,12 @@ fn print_moment(rt: &HostRuntime, moment: &Moment) -> io::Result<()> {
     if !moment.low {
         rt.print(" none")?;
     }
-    print_pulling(rt, moment.entries.as_slice())?;
-    rt.print(" | line ")?;
-    rt.println(level(moment.low))
-}
-
-// Prints the address of each station that pulls.
-fn print_pulling(rt: &HostRuntime, entries: &[Entry]) -> io::Result<()> {
-    for entry in entries {
-        if entry.pulls() {
-            print_address(rt, entry)?;
-        }
+    for entry in moment.entries.iter().filter(|entry| entry.pulls()) {
+        let address = entry.address().byte();
+        print!(rt; " {address:02X}h")?;
     }
-    Ok(())
-}
-
-// Prints the address of a station.
-fn print_address(rt: &HostRuntime, entry: &Entry) -> io::Result<()> {
-    print_byte(rt, entry.address().byte())?;
-    rt.print("h")
-}
-
-// Prints a line for each station.
-fn print_entries(rt: &HostRuntime, entries: &[Entry]) -> io::Result<()> {
-    for entry in entries {
-        print_entry(rt, entry)?;
-    }
-    Ok(())
+    let level = level(moment.low);
+    println!(rt; " | line {level}")
 }
 
 // Prints an entry: what is latched and answered, the mask, the frame and the black box.
@@ -69,15 +50,20 @@ fn print_entry(rt: &HostRuntime, entry: &Entry) -> io::Result<()> {
     let latched = entry.latched();
     let answered = entry.answered();
     let mask = entry.mask();
-    print!(rt;
-        "    {address:02X}h: latched {latched}, answered {answered}, mask {mask:04X}, frame"
-    )?;
-    print_bytes(rt, &entry.frame().bytes())?;
-    rt.print(", black box")?;
-    print_bytes(rt, &entry.box_bytes())?;
+    print!(rt; "    {address:02X}h: latched {latched}, answered {answered}, mask {mask:04X}")?;
+    let frame = entry.frame().bytes();
+    let black_box = entry.box_bytes();
+    print_bytes(rt, &frame, &black_box)?;
     rt.println(if entry.is_armed() {
         ", armed"
     } else {
         ", not armed"
     })
+}
+
+// Prints the bytes of a frame and of a black box.
+fn print_bytes(rt: &HostRuntime, frame: &[u8], black_box: &[u8]) -> io::Result<()> {
+    let frame = Spaced(frame);
+    let black_box = Spaced(black_box);
+    print!(rt; ", frame{frame}, black box{black_box}")
 }

@@ -13,25 +13,22 @@ const COVERS_12: u16 = 0x1000;
 // The mask word that covers all that a mask can cover.
 const COVERS_ALL: u16 = 0xffff;
 
-// The lawful address that a byte is.
-fn lawful_address(byte: u8) -> Address
-    requires { Lawful byte }
-    ensures { result.byte ≡ byte }
-{
-    match Address::new(byte) {
-        Ok(address) => address,
-        Err(_) => unreachable(),
-    }
-}
-
 // The set of condition 16, which no mask covers.
 fn condition_16() -> Conditions
     ensures { Only 16 result }
 {
-    match Conditions::only(16) {
-        Some(set) => set,
-        None => unreachable(),
-    }
+    Conditions::only(16).unwrap()
+}
+
+// The station at an address as it is built: the set that is latched first, and the mask.
+// Each of the four functions below is a call of it with its own numbers, which its contract promises.
+fn station(address: u8, first: Conditions, mask: u16) -> PracticeStation
+    requires { Lawful address }
+    ensures address { result.entry.address.byte ≡ address }
+    ensures first { result.first ≡ first }
+    ensures mask { result.mask ≡ mask }
+{
+    PracticeStation::new(Address::try_from(address).unwrap(), first, mask)
 }
 
 // The station 10h: condition 16 is latched as it is built, and nothing is masked.
@@ -40,7 +37,7 @@ pub fn station_10h() -> PracticeStation
     ensures first { Only 16 result.first }
     ensures mask { result.mask ≡ 0 }
 {
-    PracticeStation::new(lawful_address(0x10), condition_16(), 0)
+    station(0x10, condition_16(), 0)
 }
 
 // The station 12h: nothing is latched, and nothing is masked.
@@ -49,7 +46,7 @@ pub fn station_12h() -> PracticeStation
     ensures first { Empty result.first }
     ensures mask { result.mask ≡ 0 }
 {
-    PracticeStation::new(lawful_address(0x12), Conditions::empty(), 0)
+    station(0x12, Conditions::empty(), 0)
 }
 
 // The station 14h: nothing is latched, and condition 12 is masked.
@@ -58,7 +55,7 @@ pub fn station_14h() -> PracticeStation
     ensures first { Empty result.first }
     ensures mask { result.mask ≡ 0x1000 }
 {
-    PracticeStation::new(lawful_address(0x14), Conditions::empty(), COVERS_12)
+    station(0x14, Conditions::empty(), COVERS_12)
 }
 
 // Another station at 10h: as the first, but all is masked that a mask can cover.
@@ -67,5 +64,5 @@ pub fn other_station_10h() -> PracticeStation
     ensures first { Only 16 result.first }
     ensures mask { result.mask ≡ 0xffff }
 {
-    PracticeStation::new(lawful_address(0x10), condition_16(), COVERS_ALL)
+    station(0x10, condition_16(), COVERS_ALL)
 }

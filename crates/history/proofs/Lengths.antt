@@ -1,9 +1,8 @@
 -- No call changes the number of entries; what fills a buffer of its own length is all that it then holds.
 -- Assumes nothing.
-use Rattle.std.proofs.Common.{◌≡◌, ℕ, suc, Bool, true, false, ◌||◌, eqb, ltb, List, [], ◌∷◌, ◌++◌, length, drop, Some, None, Option, refl, ap, ◌∙◌, inl, inr, append-nil, arith}
-use Rattle.std.proofs.lemmas.List.{drop_all, take_all}
+use Rattle.std.proofs.Common.{◌≡◌, ℕ, suc, Bool, true, false, ◌||◌, eqb, ltb, List, [], ◌∷◌, length, Some, None, Option, refl, ap, inl, inr}
 use Rattle.alert.specs.declared.entries.Entry.{Entry}
-use Rattle.segment.specs.Segments.{AlertChecked, At, CallAt, Each, lowest_pulling, written_over}
+use Rattle.segment.specs.Segments.{AlertChecked, At, CallAt, Each, lowest_pulling}
 use Rattle.segment.specs.Stations.{Answered}
 use Rattle.segment.specs.declared.segments.JoinAnswer.{JoinAnswer}
 use Rattle.history.specs.Histories.{Made}
@@ -43,8 +42,3 @@ made_length joining (transfer a written wanted) answer xs before after ys (r, is
 made_length joining (alert_read wanted) answer xs before after ys (r, is, effect) =
     alert_length (eqb wanted 1 || eqb wanted 2) (ltb (length before) wanted) (lowest_pulling xs) _ _ _ _ xs ys (λ p. p.1) (λ p. p.1) (λ p. p.1) (λ k p. at_length k Answered xs ys p.2) effect
 made_length joining (ask q) answer xs before after ys (is, same, kept) = ap length same
-
--- entries written over a buffer that has a place for each
-pub over_all : (xs buffer : List Entry) → length buffer ≡ length xs → written_over xs buffer ≡ xs
-over_all xs buffer e = ap (λ (z : List Entry). z ++ drop (length xs) buffer) (take_all (length buffer) xs (omega arith))
-    ∙ ap (λ (z : List Entry). xs ++ z) (drop_all (length xs) buffer (omega arith)) ∙ append-nil xs

@@ -1,4 +1,4 @@
--- Turns taken one after the other: the next one, and the memory for those that are left.
+-- Turns taken one after the other: the next one.
 -- Assumes nothing.
 use Rattle.std.proofs.Common.{◌≡◌, ℕ, List, [], ◌∷◌, ◌++◌, map, reverse, vec_items, Option, sym, refl, ap, ◌∙◌, subst}
 use mathlib.Core.List.{map-append, reverse-append}
@@ -6,12 +6,11 @@ use Rattle.alert.specs.declared.entries.Entry.{Entry}
 use Rattle.segment.specs.declared.segments.JoinAnswer.{JoinAnswer}
 use Rattle.history.specs.Histories.{Chain, Follows, Made}
 use Rattle.history.specs.Law.{shown_at}
-use Rattle.history.specs.Memory.{Every, TurnTaken, TurnsTaken}
+use Rattle.history.specs.Memory.{TurnTaken, TurnsTaken}
 use Rattle.history.specs.Recorded.{OwnRun, call_of, newest_first, reply_at, shown_now, turn_of}
 use Rattle.history.specs.Turns as turn
 use Rattle.history.specs.Turns.{Called}
 use Rattle.history.specs.declared.calls.Answer.{Answer}
-use Rattle.history.specs.declared.moments.Moment.{Moment}
 use Rattle.history.specs.declared.moments.Turn.{Turn}
 
 -- ---- one turn more
@@ -50,15 +49,3 @@ module _ (joining : Option JoinAnswer) (first : List Entry) (buffer : List ℕ) 
       let is : after ≡ vec_items t.after.reply = sym (ap (λ (m : turn.Moment). m.reply) next.shown) in
       subst (λ (h : List turn.Turn). OwnRun own s buffer h v) (sym (newest_more ts t))
       (u, ran, subst (λ (k : List ℕ). own (call_of t.call) t.answer u (reply_at buffer (newest_first ts)) k v) is (subst (λ (k : List ℕ). own (call_of t.call) t.answer u k after v) was rule))
-
--- ---- in memory
-
--- one more with memory
-pub every_push : (P : Moment → Type 0) (ms : List Moment) (m : Moment) → Every P ms → P m → Every P (ms ++ m ∷ [])
-every_push P [] m all here = (here, tt)
-every_push P (x ∷ ms) m all here = (all.0, every_push P ms m all.1 here)
-
--- the last has memory, and so have those before it
-pub every_last : (P : Moment → Type 0) (ms : List Moment) (m : Moment) → Every P (ms ++ m ∷ []) → P m × Every P ms
-every_last P [] m all = (all.0, tt)
-every_last P (x ∷ ms) m all = let more = every_last P ms m all.1 in (more.0, (all.0, more.1))

@@ -1,11 +1,10 @@
 -- A turn that does something at one address only, or at none, and what it makes of the entries place by place.
 -- Assumes nothing.
 use Rattle.std.proofs.Common.{◌≡◌, ℕ, Bool, true, false, cond, eqb, List, [], ◌∷◌, refl, subst, inl, inr}
-use Rattle.std.proofs.lemmas.Bool.{eqb-false}
+use Rattle.std.proofs.lemmas.Bool.{eqb-false, or_parts}
 use Rattle.alert.specs.Entries.{address_of}
 use Rattle.alert.specs.declared.entries.Entry.{Entry}
 use Rattle.segment.specs.Segments.{At, Each, Unlike, Untouched, stands}
-use Rattle.segment.proofs.Places.{or_false_left, or_false_right}
 use Rattle.history.specs.Law.{Answers}
 use Rattle.history.specs.Turns.{Called, Moment, Turn}
 use Rattle.history.specs.declared.calls.Answer.{Answer}
@@ -34,8 +33,8 @@ module _ (t : Turn) where
     all_away [] (y ∷ ys) none each = absurd each
     all_away (x ∷ xs) [] none each = absurd each
     all_away (x ∷ xs) (y ∷ ys) none each = (
-      untouched x y (eqb-false (address_of x) a (or_false_left _ _ none)) each.0,
-      all_away xs ys (or_false_right (eqb (address_of x) a) _ none) each.1,
+      untouched x y (eqb-false (address_of x) a (or_parts _ _ none).0) each.0,
+      all_away xs ys (or_parts (eqb (address_of x) a) _ none).1 each.1,
     )
 
     -- a turn that does nothing away from the address a, and there what R says

@@ -1,6 +1,6 @@
 -- How a run fills the memory that it got before its first call.
 -- Assumes nothing.
-use Rattle.std.specs.Prelude.{◌≡◌, ℕ, List, [], ◌∷◌, length, vec_len, Option}
+use Rattle.std.specs.Prelude.{◌≡◌, ℕ, List, length, vec_len, All, Option}
 use Rattle.alert.specs.declared.entries.Entry.{Entry}
 use Rattle.segment.specs.declared.segments.JoinAnswer.{JoinAnswer}
 use Rattle.history.specs.Histories.{Chain, Made}
@@ -13,14 +13,9 @@ use Rattle.history.specs.declared.moments.Turn.{Turn}
 abbrev pub Roomy : ℕ → ℕ → Moment → Type 0
 Roomy stations bytes m = (vec_len m.entries ≡ stations) × (vec_len m.reply ≡ bytes)
 
--- P holds of each
-abbrev pub Every : (Moment → Type 0) → List Moment → Type 0
-Every P [] = Unit {0}
-Every P (m ∷ more) = P m × Every P more
-
 -- so many moments, each with places for so many entries and bytes
 abbrev pub Blank : ℕ → ℕ → ℕ → List Moment → Type 0
-Blank count stations bytes moments = (length moments ≡ count) × Every (Roomy stations bytes) moments
+Blank count stations bytes moments = (length moments ≡ count) × All (Roomy stations bytes) moments
 
 -- a turn taken: its call is made, and its answer and what shows then are written down
 pub record TurnTaken (joining : Option JoinAnswer) (xs : List Entry) (before : List ℕ) (taken : Turn) (after : List ℕ) (ys : List Entry) : Type 0 where

@@ -24,6 +24,7 @@ pub enum Call<'a> {
     Transfer(u8, &'a [u8], usize),
     // An alert read that wants so many bytes.
     AlertRead(usize),
+    // A question.
     Ask(Question),
 }
 
@@ -36,8 +37,10 @@ pub enum Answer {
     Replied(Result<Reply, SegmentFault>),
     // Whether a station stands at the address.
     Present(bool),
+    // The entries, which show at the end of the turn.
     Entries,
     // Whether the line is low.
     Low(bool),
+    // What the join answers, if the segment is one.
     Joined(Option<JoinAnswer>),
 }

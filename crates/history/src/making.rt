@@ -7,6 +7,8 @@ use crate::calls::{Answer, Call, Question};
 use segment::Segment;
 
 // Makes a call on a segment, with a reply buffer.
+// Segment and buffer are no struct, since the law speaks of each alone; and `joint`, here and in a run, relates two states of the segment,
+// which no invariant of one can.
 pub fn make<S: Segment>(segment: &mut S, call: Call<'_>, reply: &mut [u8]) -> Answer
     ensures own { OwnMade S.Segment.samples S.Segment.transfers S.Segment.answers S.Segment.entries (call_of call.entry) result segment.old reply.old reply.new segment.new }
     ensures effects { Made (S.Segment.joining segment.old) (call_of call.entry) result (S.Segment.entries segment.old) reply.old reply.new (S.Segment.entries segment.new) }

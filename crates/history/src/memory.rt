@@ -11,10 +11,8 @@ use std::alloc::{AllocError, Global};
 
 // An entry to fill memory with.
 fn blank_entry() -> Entry {
-    match Address::new(0x08) {
-        Ok(address) => Entry::new(address, Conditions::empty(), 0, Frame::of_words([0; 6])),
-        Err(_) => unreachable(),
-    }
+    let address = Address::try_from(0x08).unwrap();
+    Entry::new(address, Conditions::empty(), 0, Frame::from([0; 6]))
 }
 
 // Memory for a moment: places for so many entries, and for the reply buffer.
@@ -47,10 +45,12 @@ pub fn blank_moments(
 }
 
 // Writes down what shows, into memory that has places for it.
+// That it has them is no invariant of a moment, since it relates the moment to one segment.
 pub fn show<S: Segment>(segment: &S, reply: &[u8], moment: &mut Moment)
     requires { Roomy (length (S.Segment.entries segment.now)) (length reply.now) moment.old }
     ensures { moment_of moment.new ≡ shown_now (S.Segment.entries segment.now) reply.now }
 {
+    // As many are written as there are stations: the number is known.
     let _ = segment.write_entries(moment.entries.as_mut_slice());
     moment.low = segment.line_is_low();
     moment.reply.copy_from_slice(reply);

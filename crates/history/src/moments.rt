@@ -6,6 +6,7 @@ use alert::Entry;
 #[derive(Drop)]
 pub struct Moment {
     pub entries: Vec<Entry>,
+    // Kept beside the entries, since that the two agree is a part of what a history says.
     pub low: bool,
     pub reply: Vec<u8>,
 }

@@ -51,10 +51,12 @@ fn take_turns<'a, S: Segment>(
     ensures joint { S.Segment.joining segment.new ≡ S.Segment.joining segment.old }
 {
     for call in calls {
+        // From the back, one for each call: zipped with the calls they would be the same, and the invariant would speak of an iterator in place of a Vec.
         let Some(blank) = blanks.pop() else {
-            unreachable();
+            unreachable!();
         };
         let turn = take_turn(segment, *call, reply, blank);
+        // There is room for it, as is required.
         let _ = turns.push(turn);
     }
     turns

@@ -1,31 +1,29 @@
 -- One turn more: its memory is the last that is left, and there is a place for it.
-use Rattle.std.proofs.Common.{◌≡◌, ℕ, ◌-◌, ◌<◌, Bool, cond, List, [], ◌∷◌, ◌++◌, map, length, take, vec_items, vec_len, vec_capacity, Option, sym, ap, ◌∙◌, subst, arith, length-append, length-take}
+use Rattle.std.proofs.Common.{◌≡◌, ℕ, ◌-◌, ◌<◌, Bool, cond, List, [], ◌∷◌, ◌++◌, map, length, take, vec_items, vec_len, vec_capacity, Some, Option, sym, ap, ◌∙◌, subst, arith, length-append, length-take}
 use mathlib.Core.List.{map-append}
-use Rattle.std.proofs.lemmas.List.{length-map, take_all, take_more}
+use Rattle.std.proofs.lemmas.List.{length-map, take_more}
+use Rattle.std.proofs.lemmas.List.Elements.{All-pop}
 use Rattle.segment.specs.declared.segments.JoinAnswer.{JoinAnswer}
 use Rattle.history.specs.Histories.{OwnMade}
-use Rattle.history.specs.Memory.{Blank, Every, Roomy, TurnTaken, TurnsTaken}
+use Rattle.history.specs.Memory.{Blank, Roomy, TurnTaken, TurnsTaken}
 use Rattle.history.specs.Recorded.{OwnRun, call_part, newest_first}
 use Rattle.history.specs.declared.calls.Call.{Call}
 use Rattle.history.specs.declared.moments.Moment.{Moment}
 use Rattle.history.specs.declared.moments.Turn.{Turn}
-use Rattle.history.proofs.Taking.{every_last, own_more, taken_more}
+use Rattle.history.proofs.Taking.{own_more, taken_more}
 use Rattle.history.proofs.recording.take_turns.Goals as goal
 
 -- of so many moments the last has memory, and one fewer have it too
 last_room : (n k l : ℕ) (all rest : List Moment) (m : Moment) → all ≡ rest ++ m ∷ [] → Blank n k l all → Roomy k l m × Blank (n - 1) k l rest
 last_room n k l all rest m cut (long, rooms) =
-    let parts = every_last (Roomy k l) rest m (subst (Every (Roomy k l)) cut rooms) in
+    let parts = All-pop (Roomy k l) all rest (Some m) cut rooms in
     let sum = ap length cut ∙ length-append rest (m ∷ []) in
-    (parts.0, (omega arith, parts.1))
+    (parts.1, (omega arith, parts.0))
 
 -- the memory that is left is as large for as many entries and bytes
 room_left : (n n' k k' l l' : ℕ) (rest : List Moment) → n ≡ n' → k ≡ k' → l ≡ l' → Blank n k l rest → Blank n' k' l' rest
 room_left n n' k k' l l' rest a b d blank =
     subst (λ (z : ℕ). Blank z k' l' rest) a (subst (λ (z : ℕ). Blank n z l' rest) b (subst (λ (z : ℕ). Blank n k z rest) d blank))
-
-pub take_turn-turn-requires : goal.take_turn-turn-requires
-take_turn-turn-requires g c = (last_room _ _ _ _ _ _ c.in-Some.ensures.items c.loop-call.invariant.2).0
 
 pub loop-call-preserved : goal.loop-call-preserved
 loop-call-preserved g c =
@@ -58,8 +56,3 @@ loop-call-preserved g c =
       subst (λ (z : List Turn). OwnRun own s buffer (newest_first z) v) (sym pushed) (own_more (J s) (E s) buffer own s u v ts t (E u) before after (E v) so_far next c.loop-call.invariant.4 c.take_turn-turn.ensures.own),
       c.take_turn-turn.ensures.joint ∙ joint,
     )
-
-pub returns : goal.returns
-returns g c =
-    let all = take_all c.loop-call.call-index c.args.calls.now c.loop-call-test.false in
-    record { calls = c.loop-call.invariant.0 ∙ all; taken = c.loop-call.invariant.3; own = c.loop-call.invariant.4; joint = c.loop-call.invariant.5 }
