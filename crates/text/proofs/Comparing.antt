@@ -1,5 +1,6 @@
 -- What two texts have in common at their beginning.
-use Rattle.std.proofs.Common.{◌≡◌, ℕ, ◌+◌, Bool, true, false, cond, eqb, List, [], ◌∷◌, length, take, refl, ap, ◌∙◌, one-add, eqb-true}
+use Rattle.std.proofs.Common.{◌≡◌, ℕ, ◌+◌, Bool, true, false, cond, eqb, List, [], ◌∷◌, ◌++◌, length, take, drop, refl, sym, ap, ◌∙◌, one-add, eqb-true}
+use Rattle.std.proofs.Math.Seq.{take-add}
 use Rattle.std.specs.List.{prefix_len, common_prefix_len, zip}
 use Rattle.std.proofs.lemmas.List.Folds.{length-prefix_len}
 
@@ -26,3 +27,7 @@ same_beginning [] [] = refl
 same_beginning [] (y ∷ ys) = refl
 same_beginning (x ∷ xs) [] = refl
 same_beginning (x ∷ xs) (y ∷ ys) = one_more x y (common_prefix_len eqb xs ys) xs ys (eqb x y) refl (same_beginning xs ys)
+
+-- two beginnings, one after the other
+pub past : (xs ys : List ℕ) (at n : ℕ) → take at xs ≡ take at ys → take n (drop at xs) ≡ take n (drop at ys) → take (at + n) xs ≡ take (at + n) ys
+past xs ys at n front rest = take-add at n xs ∙ ap (λ l. l ++ take n (drop at xs)) front ∙ ap (λ l. take at ys ++ l) rest ∙ sym (take-add at n ys)

@@ -1,3 +1,4 @@
+mod Appending
 mod Comparing
 mod Counting
 mod Reading

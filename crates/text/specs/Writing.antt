@@ -1,6 +1,15 @@
--- What is written of a number and of bytes.
-use Rattle.std.specs.Prelude.{ℕ, zero, suc, ◌+◌, ◌/◌, ◌%◌, ◌^◌, Bool, true, false, cond, List, [], ◌∷◌, ◌++◌, ℤ, pos, decimal, int_lt, nat_lt, unsigned_abs}
+-- What is written of a number and of bytes, and what an append does.
+use Rattle.std.specs.Prelude.{◌≡◌, ℕ, zero, suc, ◌+◌, ◌/◌, ◌%◌, ◌^◌, Bool, true, false, cond, List, [], ◌∷◌, ◌++◌, ℤ, pos, Ok, Err, decimal, Result, int_lt, nat_lt, unsigned_abs}
 use Rattle.std.specs.List.{flat_map}
+
+-- `new` is `old` followed by some beginning of `text`
+abbrev pub Begun : List ℕ → List ℕ → List ℕ → Type 0
+Begun old text new = (part : List ℕ) × (left : List ℕ) × (text ≡ part ++ left) × (new ≡ old ++ part)
+
+-- after `old` stands all of `text`; where memory was wanting, some beginning of it
+abbrev pub Appends : {T E : Type 0} → Result T E → List ℕ → List ℕ → List ℕ → Type 0
+Appends (Ok x) old text new = new ≡ old ++ text
+Appends (Err e) old text new = Begun old text new
 
 -- the byte of a hexadecimal digit, its letters in upper case
 abbrev pub hex_letter : ℕ → ℕ

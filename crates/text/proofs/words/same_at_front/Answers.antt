@@ -4,8 +4,8 @@ use Rattle.std.proofs.lemmas.Iterator.{YieldsList-from_slice, YieldsList-from_zi
 use Rattle.std.proofs.lemmas.Iterator.Consumers.{YieldsList-at, count_from_yields_List}
 use Rattle.std.proofs.lemmas.Iterator.Search.{YieldsList-from_take_while}
 use Rattle.text.proofs.Comparing.{same, length_in_common, same_beginning}
-use Rattle.text.proofs.words.common_length.Goals as goal
-use Rattle.text.proofs.words.common_length.Goals.{After-count}
+use Rattle.text.proofs.words.same_at_front.Goals as goal
+use Rattle.text.proofs.words.same_at_front.Goals.{After-count}
 
 counted : (c : After-count) → c.count.result ≡ common_prefix_len nat_eq c.args.text.now c.args.word.now
 counted c =
