@@ -1,8 +1,8 @@
 // Two segments as one.
 ghost use Rattle.std.specs.Prelude.{◌≡◌, true, false, not, ◌&&◌, MatchOption};
 ghost use Rattle.segment.specs.Own.{OnSide, side_answer};
-ghost use Rattle.segment.specs.Answers.{address_in, is_missed};
-ghost use Rattle.segment.specs.Segments.{Built, clash, joined_entries, lower, stands};
+ghost use Rattle.segment.specs.Answers.{BySegment, address_in, is_missed};
+ghost use Rattle.segment.specs.Segments.{Built, Transferred, clash, joined_entries, lower, stands};
 
 use alert::{Conditions, Entry};
 use segment::{AlertWinner, JoinAnswer, Reply, Sample, Segment, SegmentFault};
@@ -74,6 +74,27 @@ fn lower_address(left: Option<Address>, right: Option<Address>) -> Option<Addres
     }
 }
 
+// A transfer to the left side, or where no station there has the address, to the right side.
+// Apart from the call of the trait, which so is proved from these clauses alone.
+fn transfer_sides<L: Segment, R: Segment>(
+    join: &mut Join<L, R>,
+    address: u8,
+    written: &[u8],
+    wanted: usize,
+    reply: &mut [u8],
+) -> Result<Reply, SegmentFault>
+    ensures own { OnSide (stands address (L.Segment.entries join.old.left)) join.old.both (L.Segment.transfers join.old.left address written.now wanted reply.old result reply.new join.new.left) (R.Segment.transfers join.old.right address written.now wanted reply.old result reply.new join.new.right) (join.new.left ≡ join.old.left) (join.new.right ≡ join.old.right) }
+    ensures effects { Transferred address written.now wanted (joined_entries join.old.both (L.Segment.entries join.old.left) (R.Segment.entries join.old.right)) reply.old result reply.new (joined_entries join.new.both (L.Segment.entries join.new.left) (R.Segment.entries join.new.right)) }
+    ensures still { BySegment result → join.new ≡ join.old }
+    ensures joint { side_answer join.new.both ≡ side_answer join.old.both }
+{
+    let answer = join.left.transfer(address, written, wanted, reply);
+    if join.goes_on(&answer) {
+        return join.right.transfer(address, written, wanted, reply);
+    }
+    answer
+}
+
 impl<L: Segment, R: Segment> Segment for Join<L, R> {
     ghost entries = { λ s. joined_entries s.both (L.Segment.entries s.left) (R.Segment.entries s.right) };
 
@@ -100,11 +121,7 @@ impl<L: Segment, R: Segment> Segment for Join<L, R> {
         wanted: usize,
         reply: &mut [u8],
     ) -> Result<Reply, SegmentFault> {
-        let replied = self.left.transfer(address, written, wanted, reply);
-        if self.goes_on(&replied) {
-            return self.right.transfer(address, written, wanted, reply);
-        }
-        replied
+        transfer_sides(self, address, written, wanted, reply)
     }
 
     fn answer(&mut self, winner: AlertWinner) -> Result<(), SegmentFault> {
@@ -136,9 +153,10 @@ impl<L: Segment, R: Segment> Segment for Join<L, R> {
 
     fn write_entries(&self, into: &mut [Entry]) -> usize {
         let start = self.left.write_entries(into);
-        match self.right_on_line() {
-            Some(right) => start + right.write_entries(&mut into[start..]),
-            None => start,
+        if self.both {
+            start + self.right.write_entries(&mut into[start..])
+        } else {
+            start
         }
     }
 
