@@ -86,20 +86,21 @@ pub reason : (form : Form) (address : ℕ) (r : Request) (wanted : ℕ) (j : Jud
 reason form address r wanted j e = subst (Reason form address r wanted) (sym e) (by_data form address r.command r.data_bytes wanted)
 
 module _ (form : Form) (address : ℕ) (r : Request) (wanted : ℕ) where
-  counts_by_reason : (j : Judgement) → Reason form address r wanted j → (j ≡ Err Counts) ↔ (Fits form r.data_bytes wanted → ⊥)
-  counts_by_reason (Ok x) h = (λ e. grind arith, λ unfit. absurd (unfit h.0))
-  counts_by_reason (Err Counts) h = (λ _. h, λ _. refl)
-  counts_by_reason (Err Code) h = (λ e. grind arith, λ unfit. absurd (unfit h.0))
-
-  code_by_reason : (j : Judgement) → Reason form address r wanted j → (j ≡ Err Code) ↔ (Fits form r.data_bytes wanted × HasWrongCode form address r)
-  code_by_reason (Ok x) h = (λ e. grind arith, λ both. absurd (h.1 both.1))
-  code_by_reason (Err Counts) h = (λ e. grind arith, λ both. absurd (h both.0))
-  code_by_reason (Err Code) h = (λ _. h, λ _. refl)
-
   -- a refusal by counts is exactly that they do not fit
-  pub counts_exact : (j : Judgement) → j ≡ judged form address r wanted → (j ≡ Err Counts) ↔ (Fits form r.data_bytes wanted → ⊥)
-  counts_exact j e = counts_by_reason j (reason form address r wanted j e)
+  pub counts_exact : (j : Judgement) → Reason form address r wanted j → (j ≡ Err Counts) ↔ (Fits form r.data_bytes wanted → ⊥)
+  counts_exact (Ok x) h = (λ e. grind arith, λ unfit. absurd (unfit h.0))
+  counts_exact (Err Counts) h = (λ _. h, λ _. refl)
+  counts_exact (Err Code) h = (λ e. grind arith, λ unfit. absurd (unfit h.0))
 
   -- a refusal by code is exactly that the counts fit and the code is wrong
-  pub code_exact : (j : Judgement) → j ≡ judged form address r wanted → (j ≡ Err Code) ↔ (Fits form r.data_bytes wanted × HasWrongCode form address r)
-  code_exact j e = code_by_reason j (reason form address r wanted j e)
+  pub code_exact : (j : Judgement) → Reason form address r wanted j → (j ≡ Err Code) ↔ (Fits form r.data_bytes wanted × HasWrongCode form address r)
+  code_exact (Ok x) h = (λ e. grind arith, λ both. absurd (h.1 both.1))
+  code_exact (Err Counts) h = (λ e. grind arith, λ both. absurd (h both.0))
+  code_exact (Err Code) h = (λ _. h, λ _. refl)
+
+  -- the same of what is judged
+  pub counts_judged : (j : Judgement) → j ≡ judged form address r wanted → (j ≡ Err Counts) ↔ (Fits form r.data_bytes wanted → ⊥)
+  counts_judged j e = counts_exact j (reason form address r wanted j e)
+
+  pub code_judged : (j : Judgement) → j ≡ judged form address r wanted → (j ≡ Err Code) ↔ (Fits form r.data_bytes wanted × HasWrongCode form address r)
+  code_judged j e = code_exact j (reason form address r wanted j e)

@@ -24,7 +24,7 @@ pub enum Access {
 }
 
 // What the request asks for in its form: refused by its counts first, then by a written code.
-#[tactic(auto, using(crate::proofs::Reasons::counts_exact, crate::proofs::Reasons::code_exact))]
+#[tactic(auto, using(crate::proofs::Reasons::counts_judged, crate::proofs::Reasons::code_judged))]
 pub fn judge(
     form: Form,
     address: Address,
