@@ -83,7 +83,7 @@ int main(void) {
   printf("input: %d messages of %d bytes, %d passes in each of %d alternating rounds; the median round\n", MESSAGES, LENGTH, PASSES, ROUNDS);
   printf("sum of the codes: %llu, the same of both\n", (unsigned long long)c_sum);
   printf("smbus_code: %.2f ns a message\n", r);
-  printf("C, by a table, optimised: %.2f ns a message\n", k);
+  printf("C, by a table, -O2: %.2f ns a message\n", k);
   printf("ratio, C's time to Rattle's: %.2f\n", k / r);
   return 0;
 }
